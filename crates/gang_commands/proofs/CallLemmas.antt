@@ -67,7 +67,7 @@ survey_status survey.OutOfMemory is = omega (arith, is)
 survey_status survey.DeviceFault is = omega (arith, is)
 survey_status survey.StoreFault is = omega (arith, is)
 
--- no end is a refusal of the words
+-- no target's end has the status of words that don't fit
 no_usage : (o : Outcome) (e : TargetEnd) (rest : ℕ) → status_before (reason_in o.regions e) rest ≡ 2 → rest ≡ 2
 no_usage o ended.Done rest is = is
 no_usage o (ended.Open fault) rest is = absurd (session_status fault is)
@@ -193,7 +193,7 @@ module _ {B : Type 0} (G : Ghosts B) (words : ℕ) (benches after : List B) (out
     unfit_keeps i d less = subst (λ (l : List B). KeepsOn status (G.state (get_or benches i d)) (G.state (get_or l i d))) (sym has.same)
         (let s : BenchState = G.state (get_or benches i d) in looked_on status s s (same_pairs s) (λ is_zero. omega (arith, two, is_zero)))
 
-  -- there was no memory
+  -- memory ran out
 
   module _ (fit : DoFit words (length benches)) (count : length after ≡ length benches) (wants : HasNoMemory G benches after out err status) where
     pub memory_is : status ≡ 1

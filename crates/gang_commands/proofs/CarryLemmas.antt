@@ -91,7 +91,7 @@ differs_inside legs goal a e m t d follows is =
 
 -- ---- stops
 
--- what a stop leaves that only looked at first, and then came to its own close
+-- what a stop leaves of a bench that was only looked at first, and then came to its close
 pairs_behind : (s m t : BenchState) (at : ℕ) (body goal laid : List ℕ) → PairsLeave s m (Left s) → GoesOn (file_half m) (file_half t)
     → GoesOn (cells_half m) (cells_half t)
     → PairsInTurn m t at (HasBody body) (guarded.IsAtClose body goal) → goal ≡ laid
@@ -229,7 +229,7 @@ module _ {B : Type 0} (G : Ghosts B) (s : BenchState) (begun : B) (t : BenchStat
         comes_by = λ told. not_refused told (since told first_stand stands_so);
       }
 
--- ---- each place of a gang
+-- ---- each slot of a gang
 
 module _ {B : Type 0} (G : Ghosts B) where
   slot_ends : (old : Slot) (arena arena' : List (List ℕ)) (s : BenchState) (begun bench : B) (new : Slot) → IsOpened G.tells old arena s (G.state begun)

@@ -18,7 +18,7 @@ use Rattle.gang_run.specs.Slots.{OpensWithMemory}
 use Rattle.gang_commands.specs.Works.{ComesBy}
 use Rattle.gang_commands.specs.Ends.{EndsOn}
 
--- a file that stands for a job of as many cells as there are isn't refused
+-- a file that stands for a job with as many cells as the bench has isn't refused
 pub of_job : (s : BenchState) (e : TargetEnd) → IsJobOf s.file s.cell_count → ComesBy s e
 of_job s e is = record {
   free = λ is_free. absurd (not_free is.some.job s.file is.some.whole is_free);
@@ -73,7 +73,7 @@ by_session s (session.Open (opening.CellsDiffer said found)) memory is = record 
 }
 by_session s session.DeviceFault memory is = of_job s (ended.Open session.DeviceFault) is
 
--- it was refused, and its bench was only looked at
+-- a target was refused, and its bench was only looked at
 pub refused_ends : {B : Type 0} (G : Ghosts B) (s t : BenchState) (e : TargetEnd) → IsLookedAt G.tells s t → IsRefused G.tells e s t
     → EndsOn G s (record { end = e; regions = None }) t
 refused_ends G s t ended.Done looked is = absurd is

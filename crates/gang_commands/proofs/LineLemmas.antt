@@ -59,7 +59,7 @@ status_more : (xs : List Outcome) (x : Outcome) → status_in (xs ++ (x ∷ []))
 status_more [] x = first_behind (reason x)
 status_more (y ∷ ys) x = before_all (reason y) (reason x) (status_in (ys ++ (x ∷ []))) (status_in ys) (status_more ys x)
 
--- ---- what was put of them so far
+-- ---- the lines that were put so far
 
 abbrev pub PutsUpto : Bool → SinkState → SinkState → List Outcome → ℕ → ℕ → Type 0
 PutsUpto tells old now ends k status = Puts tells old now (lines_of (take k ends)) (Ok tt) × (status ≡ status_in (take k ends))
@@ -95,12 +95,12 @@ puts_all tells a b ends k status most upto =
     let puts : Puts tells a b (lines_of ends) (Ok tt) = puts_as (ap lines_of (take_all k ends most)) upto.0 in
     (record { taken = puts.ok; faults = puts.cause.on_ok refl }, upto.1 ∙ ap status_in (take_all k ends most))
 
--- a fault of the sink comes behind a beginning of them
+-- a fault of the sink comes after a beginning of the lines
 pub puts_ended : (out : SinkCall) (ends : List Outcome) (r : Result ℕ OutputFault) → IsErr r → TookPart out (lines_of ends) → PutsEnds out ends r
 puts_ended out ends (Ok status) failed part = absurd (cc failed)
 puts_ended out ends (Err e) failed part = part
 
--- the refusal of a target in its place
+-- the refusal of a target, at its place among the outcomes
 pub in_place : (g : Gang) (i : ℕ) (d : Outcome) (said : Option Refusal) → i < length g.slots.items → said ≡ reason (outcome_of (slot_at g i))
     → said ≡ reason (get_or (outcomes g) i d)
 in_place g i d said less is = is ∙ ap reason (sym (get_or-map outcome_of g.slots.items i (slot.Refused (ended.Survey survey.StoreFault)) d less))

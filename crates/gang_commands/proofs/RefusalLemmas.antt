@@ -1,4 +1,4 @@
--- What a place of a gang shows of a target that has ended.
+-- What a slot of a gang shows of a target that has ended.
 use Rattle.std.proofs.Common.{◌≡◌, refl, ap, Option, Some, None}
 use Rattle.std.specs.Borrow.{Bor}
 use Rattle.job_text.specs.declared.job.Job.{Job}

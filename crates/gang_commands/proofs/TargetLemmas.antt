@@ -40,9 +40,9 @@ use Rattle.gang_commands.specs.Ends.{HasFinished, as_resume, KeepsOn}
 use Rattle.gang_commands.specs.Lines.{Outcome, reason, reason_in, status_before}
 use Rattle.gang_commands.specs.Works.{aim_of, Carries, Comes}
 
--- ---- its status
+-- ---- a target's status
 
--- with status 0 it is done, and so are those behind it
+-- with status 0 a target is done, and so are those after it
 pub done_first : (o : Outcome) (e : TargetEnd) (rest : ℕ) → status_before (reason_in o.regions e) rest ≡ 0 → (e ≡ ended.Done) × (rest ≡ 0)
 done_first o ended.Done rest is = (refl, is)
 done_first o (ended.Open fault) rest is = absurd (omega (arith, some_status (of_session fault), is))
@@ -52,11 +52,11 @@ done_first o (ended.Mismatch d) rest is = absurd (omega (arith, is))
 done_first o ended.StoreFault rest is = absurd (omega (arith, is))
 done_first o ended.DeviceFault rest is = absurd (omega (arith, is))
 
--- by itself
+-- a target with status 0 of its own is done
 pub done_alone : (x : Outcome) → status_before (reason x) 0 ≡ 0 → x.end ≡ ended.Done
 done_alone x is = (done_first x x.end 0 is).0
 
--- ---- its reason
+-- ---- a target's reason
 
 session_reason : (fault : SessionFault) → is_of_gang (of_session fault) ≡ true
 session_reason session.OutOfMemory = refl
@@ -82,11 +82,11 @@ reason_by o (ended.Mismatch d) = refl
 reason_by o ended.StoreFault = refl
 reason_by o ended.DeviceFault = refl
 
--- it is one of a call for several benches
+-- the reason of a target is one that a call of a gang may give
 pub its_reason : (x : Outcome) → IsOfGang (reason x)
 its_reason x = reason_by x x.end
 
--- ---- its bench
+-- ---- a target's bench
 
 some_job : {B : Type 0} (G : Ghosts B) (s : BenchState) (x : Outcome) (t : BenchState) → Carries G s x t → IsSomeJob s.file
 some_job G s x t c = record {
@@ -103,12 +103,12 @@ its_goal j s stands =
     ap (λ (r : List Run). overlaid r j.board.regions (snapshot_in j s.file)) (sym stands.image)
     ∙ ap (λ (c : List ℕ). overlaid stands.text.image j.board.regions c) (sym stands.snapshot)
 
--- its script, which comes to this end
+-- the script of a job that was carried comes to this end
 abbrev Way : {B : Type 0} (G : Ghosts B) (s : BenchState) (x : Outcome) (t : BenchState) → Carries G s x t → TargetEnd → Type 0
 Way G s x t c e =
     FollowsAs (job_legs c.job c.surveyed s.file) (goal_in c.job New s.file) (job_start c.job (G.state c.begun).cells) e (G.state c.begun) t
 
--- its job is done
+-- a job that was carried to the end Done is done
 its_done : {B : Type 0} (G : Ghosts B) (s : BenchState) (x : Outcome) (t : BenchState) (c : Carries G s x t) → x.end ≡ ended.Done
     → IsDone (body_of c.stands.text) (aim_of c.stands.text (board.shown c.job.board)).laid t
 its_done G s x t c is =
@@ -124,7 +124,7 @@ its_done G s x t c is =
 abbrev KeepsFor : ℕ → BenchState → BenchState → CampaignJob → Type 0
 KeepsFor status s t aim = (turn : ℕ) × ((end : ℕ) → s.moment ≤ end → end ≤ t.moment → Keeps aim (as_resume status s t turn end))
 
--- a bench that wasn't called
+-- a stop of a bench that wasn't called leaves what it could leave before
 pub same_pairs : (s : BenchState) → PairsLeave s s (Left s)
 same_pairs s = record {
   files = goes_here (file_half s);
@@ -134,7 +134,7 @@ same_pairs s = record {
       (subst (λ (n : ℕ). s.files_at n f) is f_at, subst (λ (n : ℕ). s.cells_at n c) is c_at);
 }
 
--- a bench that was only looked at
+-- a bench that was only looked at keeps what a campaign asks for
 looked_keeps : (status : ℕ) (s t : BenchState) (aim : CampaignJob) → PairsLeave s t (Left s) → (status ≡ 0 → ⊥) → KeepsFor status s t aim
 looked_keeps status s t aim pairs not_zero = (
   t.moment + 1,
@@ -155,7 +155,7 @@ looked_keeps status s t aim pairs not_zero = (
   }),
 )
 
--- one whose job was carried
+-- a bench whose job was carried keeps what a campaign asks for
 carried_keeps : {B : Type 0} (G : Ghosts B) (status : ℕ) (s : BenchState) (x : Outcome) (t : BenchState) (c : Carries G s x t)
     → (status ≡ 0 → x.end ≡ ended.Done)
     → KeepsFor status s t (aim_of c.stands.text (board.shown c.job.board))
@@ -205,7 +205,7 @@ keeps_by G status s x t (ended.Mismatch d) is comes done = one_keeps G status s 
 keeps_by G status s x t ended.StoreFault is comes done = one_keeps G status s x t comes done
 keeps_by G status s x t ended.DeviceFault is comes done = one_keeps G status s x t comes done
 
--- Where its close begins: after the exit where the status is one without a close.
+-- Where the close of a call begins: after the exit where the status is one without a close.
 pub record ClosesOn (status : ℕ) (s t : BenchState) (aim : CampaignJob) : Type 0 where
   pub turn : ℕ
   pub stops : WorkStops s t turn aim.body aim.laid
@@ -258,12 +258,12 @@ closes_with G s x t ended.StoreFault is c = carried_closes G 8 s x t c
     (λ none. absurd (other_status 8 8 refl (λ q. omega (arith, q)) (λ q. omega (arith, q)) (λ q. omega (arith, q)) (λ q. omega (arith, q)) none))
 closes_with G s x t ended.DeviceFault is c = carried_closes G 9 s x t c (λ none. ap has_no_close is)
 
--- by its own status
+-- where the close begins, by the target's own status
 pub closes_by : {B : Type 0} (G : Ghosts B) (s : BenchState) (x : Outcome) (t : BenchState) → Comes G s x t x.end
     → ClosesEach (status_before (reason x) 0) s t
 closes_by G s x t comes = closes_with G s x t x.end refl comes
 
--- its job is finished where it is done
+-- the job of a target that is done is finished
 pub finished_by : {B : Type 0} (G : Ghosts B) (s : BenchState) (x : Outcome) (t : BenchState) → Comes G s x t x.end → x.end ≡ ended.Done
     → HasFinished s t
 finished_by G s x t comes done =

@@ -16,7 +16,7 @@ some_benches words (suc n) fit = omega arith
 pub few_benches : (words benches : ℕ) → DoFit words benches → benches ≤ 16
 few_benches words benches fit = omega (arith, fit.few, fit.twice)
 
--- they fit or don't
+-- words fit the benches or don't
 pub fits_or_not : (words benches : ℕ) → DoFit words benches ⊎ (DoFit words benches → ⊥)
 fits_or_not words benches = ⊎_elim
     (λ (none : words ≡ 0). inr (λ (fit : DoFit words benches). fit.some none))
@@ -32,7 +32,7 @@ fits_or_not words benches = ⊎_elim
     (cases_eq (words % 2) 0))
     (cases_eq words 0)
 
--- by whether they were found to fit
+-- ---- whether the words were found to fit
 
 pub not_fit : (words benches w n : ℕ) (b : Bool) → b ≡ false → (b ≡ true) ↔ DoFit w n → w ≡ words → n ≡ benches → DoFit words benches → ⊥
 not_fit words benches w n b isn't found same_words same_benches fit =

@@ -1,4 +1,4 @@
--- How a target of a gang has to do with its bench.
+-- What the end of a gang's target says of its bench.
 use Rattle.std.specs.Prelude.{◌≡◌, ◌⊎◌, ◌<◌, ◌≤◌, ℕ, IsTrue, List, length, get_or}
 use Rattle.faults.specs.Counts.{Rose}
 use Rattle.bench_model.specs.declared.bench.Bench.{Ghosts}
@@ -20,7 +20,7 @@ use Rattle.flash_session.specs.Turns.{target_fault}
 use Rattle.gang_commands.specs.Lines.{Outcome}
 use Rattle.gang_commands.specs.Works.{aim_of, Comes, ComesBy, IsSound}
 
--- one target, from the entry of the call to its exit
+-- what the end of one target says of its bench, from the entry of the call to its exit
 pub record EndsOn {B : Type 0} (G : Ghosts B) (s : BenchState) (x : Outcome) (t : BenchState) : Type 0 where
   pub sound : IsSound s.cell_count x.end
   -- a fault was counted only where it is the end, and is the end only where its count rose
@@ -35,7 +35,7 @@ AllEndOn {B} G benches ends benches' = (i : ℕ) (d : B) (x : Outcome) → i < l
 
 -- ---- what follows for each bench
 
--- its job is finished
+-- the job that a bench held at entry is done at exit
 pub record HasFinished (s t : BenchState) : Type 0 where
   pub job : Job
   pub board : board.Shown
@@ -47,11 +47,11 @@ pub record HasFinished (s t : BenchState) : Type 0 where
 abbrev pub AllFinished : {B : Type 0} → Ghosts B → List B → List B → Type 0
 AllFinished {B} G benches benches' = (i : ℕ) (d : B) → i < length benches → HasFinished (G.state (get_or benches i d)) (G.state (get_or benches' i d))
 
--- a call of a gang as one of `resume` on this bench, which was at its close from `turn` on, and ended or was stopped at `end`
+-- the call of a gang, seen as a call of `resume` on this bench: its close begins at `turn`, and it ended or was stopped at `end`
 abbrev pub as_resume : ℕ → BenchState → BenchState → ℕ → ℕ → campaign.LaterCall
 as_resume status s t turn end = record { goal = campaign.resume; old = s; new = t; status = status; closing = turn; end = end }
 
--- It keeps what a campaign of each job asks for, and a bench whose file stands for no job is left as a stop at entry may leave it.
+-- The call keeps what a campaign of each job asks for. A bench whose file stands for no job is left as a stop at entry may leave it.
 pub record KeepsOn (status : ℕ) (s t : BenchState) : Type 0 where
   pub keeps : (job : Job) (b : board.Shown) (algorithms : List flm.Shown) → IsJob job b algorithms → IsFree s.file ⊎ IsWhole (body_of job) s.file
       → (turn : ℕ) × ((end : ℕ) → s.moment ≤ end → end ≤ t.moment → Keeps (aim_of job b) (as_resume status s t turn end))
@@ -62,7 +62,8 @@ AllKeep {B} G status benches benches' = (i : ℕ) (d : B) → i < length benches
 
 -- ---- jobs whose algorithms keep their duties
 
--- its file stands for a job of as many cells as there are, of which each region has an algorithm that keeps its duties for it
+-- the file of a bench stands for a job with as many cells as the bench has, and each region of its board has an algorithm that keeps its
+-- duties
 pub record IsServed (b : BenchState) : Type 0 where
   pub some : IsSomeJob b.file
   pub size : size_of some.board.regions ≡ b.cell_count

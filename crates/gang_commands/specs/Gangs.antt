@@ -9,7 +9,7 @@ use Rattle.gang_commands.specs.Words.{DoFit}
 use Rattle.gang_commands.specs.Lines.{Outcome, lines_of, status_in}
 use Rattle.gang_commands.specs.Ends.{AllEndOn}
 
--- The lines and the status of these ends; or `out` failed, and took a beginning of the lines.
+-- The call said the lines and the status of these ends, or `out` failed after it took a beginning of the lines.
 abbrev pub SaysEnds : SinkCall → SinkCall → List Outcome → ℕ → Type 0
 SaysEnds out err ends status = (TookAll out (lines_of ends) × (status ≡ status_in ends) × TookNothing err)
     ⊎ (TookPart out (lines_of ends) × Says status err (refused output_fault))
@@ -20,7 +20,7 @@ pub record HasNoUsage {B : Type 0} (benches benches' : List B) (out err : SinkCa
   pub prints : TookNothing out
   pub says : Says status err (refused usage)
 
--- There was no memory: the files are as they were, and the cells outside the operations that were open at entry.
+-- Memory ran out: the files are as they were, and so are the cells outside the operations that were open at entry.
 pub record HasNoMemory {B : Type 0} (G : Ghosts B) (benches benches' : List B) (out err : SinkCall) (status : ℕ) : Type 0 where
   pub looked : AreLookedAt G benches benches'
   pub prints : TookNothing out
@@ -33,7 +33,7 @@ pub record HaveEnded {B : Type 0} (G : Ghosts B) (benches benches' : List B) (ou
   pub ended : AllEndOn G benches ends benches'
   pub says : SaysEnds out err ends status
 
--- a call with so many words
+-- what a call with this number of words answers
 pub record Answers {B : Type 0} (G : Ghosts B) (words : ℕ) (benches benches' : List B) (out err : SinkCall) (status : ℕ) : Type 0 where
   pub count : length benches' ≡ length benches
   pub unfit : (DoFit words (length benches) → ⊥) → HasNoUsage benches benches' out err status

@@ -14,14 +14,14 @@ pub record Outcome : Type 0 where
   pub end : TargetEnd
   pub regions : Option (List Region)
 
--- Why it isn't done.
+-- Why a target isn't done.
 
--- the address of a place; behind the cells of the regions, and where there are none, the place itself
+-- the address of a place among the cells of the regions; the place itself where it is after those cells, or where there are no regions
 abbrev pub address_in : Option (List Region) → ℕ → ℕ
 address_in None place = place
 address_in (Some regions) place = unwrap_or (address_at regions place) place
 
--- none where it is done
+-- why a target with these regions isn't done: none where it is
 abbrev pub reason_in : Option (List Region) → TargetEnd → Option Refusal
 reason_in regions ended.Done = None
 reason_in regions (ended.Open fault) = Some (of_session fault)
@@ -36,7 +36,7 @@ reason x = reason_in x.regions x.end
 
 -- The lines, one after the other.
 
--- of targets of which the first has this number
+-- the lines of targets that are numbered from `index` on
 abbrev pub lines_from : ℕ → List Outcome → List ℕ
 lines_from index [] = []
 lines_from index (x ∷ rest) = target_line index (reason x) ++ lines_from (index + 1) rest

@@ -25,7 +25,7 @@ use Rattle.gang_commands.specs.Lines.{Outcome, lines_of, status_in}
 abbrev pub regions_of : Option (Bor Job) → Option (List Region)
 regions_of job = option_map (λ (j : Job). j.board.regions) (option_copied job)
 
--- a target that hasn't ended has no end, and is taken as one whose file failed
+-- the end of a target; one that hasn't ended counts as one whose job file failed
 abbrev pub end_of : Place → TargetEnd
 end_of (place.At c) = ended.StoreFault
 end_of (place.In call len left next) = ended.StoreFault
@@ -37,15 +37,15 @@ abbrev pub outcome_of : Slot → Outcome
 outcome_of (slot.Refused e) = record { end = e; regions = None }
 outcome_of (slot.Open x) = record { end = end_of x.player.place; regions = Some x.job.board.regions }
 
--- of each target in order
+-- the outcomes of a gang's targets, in order
 abbrev pub outcomes : Gang → List Outcome
 outcomes g = map outcome_of g.slots.items
 
--- each of the first so many has ended
+-- each of the first `count` targets has ended
 abbrev pub HasEndedUpto : Gang → ℕ → Type 0
 HasEndedUpto g count = (i : ℕ) → i < count → slot_turn (slot_at g i) ≡ turn.Ended
 
--- the status of the first refusal, behind others that gave this status
+-- the status of the first refusal: the status so far unless that is 0, and otherwise that of the next target
 abbrev pub status_behind : ℕ → Option Refusal → ℕ
 status_behind zero None = 0
 status_behind zero (Some refusal) = status_of refusal

@@ -1,8 +1,8 @@
 -- The words of a gang.
 use Rattle.std.specs.Prelude.{◌≡◌, ◌≢◌, ◌≤◌, ◌%◌, ◌*◌, ℕ}
 
--- So many words are pairs of a job file and a cells file, one for each of so many benches: there are some, their number is even, they are at
--- most 32, and they are twice as many as the benches.
+-- The words are pairs of a job file and a cells file, one pair for each bench. There are some, their number is even and at most 32, and it
+-- is twice the number of benches.
 pub record DoFit (words benches : ℕ) : Type 0 where
   pub some : words ≢ 0
   pub even : words % 2 ≡ 0

@@ -1,4 +1,4 @@
--- What a target does on its bench whose job was carried, and what else it comes to.
+-- What a target with a job leaves on its bench, and how a target ends otherwise.
 use Rattle.std.specs.Prelude.{◌≡◌, ◌≢◌, ◌⊎◌, ◌<◌, ℕ, true, IsSome, List, Some, None}
 use Rattle.bench_model.specs.declared.bench.Bench.{Ghosts}
 use Rattle.bench_model.specs.State.{BenchState}
@@ -32,11 +32,11 @@ use Rattle.gang_run.specs.Slots.{OpensWithMemory, HasMemory}
 use Rattle.job_text.specs.Laid.{address_at}
 use Rattle.gang_commands.specs.Lines.{Outcome}
 
--- what a job is to a campaign
+-- the part of a job that a campaign speaks of: its body, its snapshot, and its image over the snapshot
 abbrev pub aim_of : text.Job → board.Shown → CampaignJob
 aim_of job b = record { body = body_of job; laid = overlaid job.image b.regions job.snapshot; snapshot = job.snapshot }
 
--- A job was opened and surveyed on its bench, which was then as `begun`, and carried by its own script to this end.
+-- A job was opened and surveyed on its bench, which was then as `begun`, and its own script was carried to this end.
 pub record Carries {B : Type 0} (G : Ghosts B) (s : BenchState) (x : Outcome) (t : BenchState) : Type 0 where
   pub begun : B
   pub looked : IsLookedAt G.tells s (G.state begun)
@@ -48,21 +48,22 @@ pub record Carries {B : Type 0} (G : Ghosts B) (s : BenchState) (x : Outcome) (t
   pub regions : x.regions ≡ Some job.board.regions
   pub surveyed : Surveyed
   pub found : HasSurveyed G.tells job New s.file (G.state begun).cells surveyed
-  -- the end, the cells and each moment are an outcome of its script from the cells as surveyed; done is reached
+  -- the end, the cells and each moment are an outcome of the job's script from the cells as surveyed; the end Done means that the goal is
+  -- reached
   pub follows : FollowsAs (job_legs job surveyed s.file) (goal_in job New s.file) (job_start job (G.state begun).cells) x.end (G.state begun) t
   -- a cell that differs has an address
   pub address : (d : Difference) → x.end ≡ ended.Mismatch d → IsSome (address_at job.board.regions d.at)
-  -- the file stands for the job, or is closed behind it where it is done
+  -- the file stands for the job; where the target is done, the job is closed
   pub file : FileEnd (body_of stands.text) x.end t.file
   pub closed : x.end ≡ ended.Done → t.operation ≡ None
-  -- before its own close a stop leaves what one at entry may leave, or the whole job; from there on the whole job or the closed one, with the
-  -- cells at the goal; after a device fault, a call that failed and a mismatch it was never at its close
+  -- Before the target's close a stop leaves what one at entry may leave, or the whole job. From the close on it leaves the whole job, or
+  -- the closed one with the cells at the goal. A device fault, a failed call and a mismatch come before the close.
   pub turn : ℕ
   pub no_close : has_no_close x.end ≡ true → t.moment < turn
   pub stops : WorkStops s t turn (body_of stands.text) (overlaid job.image job.board.regions stands.text.snapshot)
 
--- An end, on a bench that tells its contents. A bench whose job wasn't opened or surveyed was only looked at, and the refusal is that of its
--- file as read and of its number of cells.
+-- The end of a target on a bench that tells its contents. A bench whose job wasn't opened or surveyed was only looked at. The reason of the
+-- refusal follows from its file as read and its number of cells.
 abbrev pub Comes : {B : Type 0} → Ghosts B → BenchState → Outcome → BenchState → TargetEnd → Type 0
 Comes G s x t ended.Done = Carries G s x t
 Comes G s x t (ended.Open fault) = IsLookedAt G.tells s t × IsSessionFault s.file s.cell_count fault
@@ -72,11 +73,12 @@ Comes G s x t (ended.Mismatch d) = Carries G s x t
 Comes G s x t ended.StoreFault = Carries G s x t
 Comes G s x t ended.DeviceFault = Carries G s x t
 
--- the job wasn't opened for this reason, or the file couldn't be read
+-- the job wasn't opened, for this reason or because the file couldn't be read
 abbrev pub IsRefusedBy : TargetEnd → OpenFault → Type 0
 IsRefusedBy e fault = (e ≡ ended.Open (session.Open fault)) ⊎ (e ≡ ended.Open (session.Open opening.StoreFault))
 
--- The other way round, by what the file is.
+-- What the file is decides the end. A free file, a file that is no job, a damaged job and a job of another size are each refused for that
+-- reason.
 pub record ComesBy (s : BenchState) (e : TargetEnd) : Type 0 where
   pub free : IsFree s.file → IsRefusedBy e opening.NoJob
   pub not_job : (at : ℕ) → IsNotAJob at s.file → IsRefusedBy e (opening.NotAJob at)
@@ -84,8 +86,8 @@ pub record ComesBy (s : BenchState) (e : TargetEnd) : Type 0 where
   pub other_size : (some : IsSomeJob s.file) → size_of some.board.regions ≢ s.cell_count
       → IsRefusedBy e (opening.CellsDiffer (size_of some.board.regions) s.cell_count)
 
--- What an end says for itself, on every bench: there was memory, and numbers of cells or hashes that are told differ; a call that failed has a
--- number, and was neither done nor broken off by a device fault; the two bytes of a mismatch differ.
+-- What an end says by itself, on every bench. Memory didn't run out. Numbers of cells or hashes that are reported as different differ. A
+-- failed call has a number, and was neither done nor broken off by a device fault. The two bytes of a mismatch differ.
 abbrev pub IsSound : ℕ → TargetEnd → Type 0
 IsSound count ended.Done = Unit {0}
 IsSound count (ended.Open fault) = OpensWithMemory fault × IsSoundSession count fault

@@ -9,7 +9,7 @@ use gang_run::Gang;
 use outside_io::{OutputFault, Sink};
 use report_text::{Refusal, put_target};
 
-/// The status of the first refusal, of those before with this status and the next.
+/// The status of the first refusal: the status so far unless that is 0, and otherwise that of the next target.
 fn first_status(status: u8, refusal: Option<&Refusal<'_>>) -> u8
     ensures { result ≡ status_behind status (option_map shown (option_copied refusal.entry)) }
 {
@@ -22,8 +22,8 @@ fn first_status(status: u8, refusal: Option<&Refusal<'_>>) -> u8
     }
 }
 
-/// Puts the lines of so many targets, all of which have ended, in order. Answers the status of the first one that isn't done, and 0 where all
-/// are. A fault may leave a beginning of the lines.
+/// Puts the lines of the first `count` targets in order. All of them have ended. Answers the status of the first one that isn't done, and 0
+/// where all are. A fault may leave a beginning of the lines.
 pub(crate) fn put_targets<O: Sink>(
     gang: &Gang,
     count: usize,

@@ -1,4 +1,4 @@
-//! The ends of targets, as refusals of the program.
+//! The ends of targets, as refusals that the program reports.
 ghost use Rattle.std.specs.Prelude.{◌≡◌, ◌<◌, length, option_map};
 ghost use Rattle.flash_session.specs.declared.target_end.Turn.TheVariants as turn;
 ghost use Rattle.gang_run.specs.Gangs.{slot_at};
@@ -12,7 +12,7 @@ use job_commands::{find_address, session_refusal, survey_refusal};
 use job_text::Job;
 use report_text::Refusal;
 
-/// The address of a place among the cells of a job. Without a job, or behind its cells, it is the place itself.
+/// The address of a place among the cells of a job. Without a job, or after the job's cells, it is the place itself.
 fn address_of(job: Option<&Job>, place: u32) -> u32
     ensures { result ≡ address_in (regions_of job.entry) place }
 {
@@ -25,7 +25,7 @@ fn address_of(job: Option<&Job>, place: u32) -> u32
     }
 }
 
-/// Why a target of this job that ended so isn't done: none where it is.
+/// Why a target of this job isn't done: none where it is.
 fn end_refusal<'a>(job: Option<&Job>, end: TargetEnd) -> Option<Refusal<'a>>
     ensures { option_map shown result ≡ reason_in (regions_of job.entry) end }
 {

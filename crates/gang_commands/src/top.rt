@@ -29,8 +29,8 @@ const STEPS: u64 = 1000;
 /// Carries the job of each bench to its image, each target in order by turns of 1,000 steps until all have ended. Then it puts a line for each
 /// on `out`: that it is done, or why not. The words are pairs of a job file and a cells file, one for each bench.
 ///
-/// Answers 0 where all are done, and else the status of the first target that isn't. Without words, with an odd number of them, with more than
-/// 32, or with other than twice as many as benches it answers 2 and does nothing. It answers 1 where there is no memory, before any cell is
+/// Answers 0 where all are done, and otherwise the status of the first target that isn't. It answers 2 and does nothing without words, with
+/// an odd number of them, with more than 32, or with other than two for each bench. It answers 1 where memory ran out, before any cell is
 /// changed, and 10 where `out` fails, once all targets have ended. These three put one line on `err`, whose faults change no status.
 pub fn flmgang<B: Bench, O: Sink, E: Sink>(
     alloc: Global,
@@ -51,7 +51,7 @@ pub fn flmgang<B: Bench, O: Sink, E: Sink>(
     if !do_fit(words.len(), benches.len()) {
         return refuse(err, Refusal::Usage);
     }
-    // What the clause `complete` rests on; it does nothing.
+    // The clause `complete` rests on this call, which does nothing.
     scripts_that_serve_reach_their_goal::<B>();
     match Gang::open(alloc, benches) {
         Ok(gang) => run(gang, benches, out, err),
@@ -59,7 +59,7 @@ pub fn flmgang<B: Bench, O: Sink, E: Sink>(
     }
 }
 
-/// Whether so many words are pairs for so many benches, of which there are 1 to 16.
+/// Whether the words are pairs for this number of benches, which is 1 to 16.
 fn do_fit(words: usize, benches: usize) -> bool
     ensures { (result ≡ true) ↔ DoFit words benches }
 {

@@ -58,7 +58,7 @@ use Rattle.gang_run.specs.Slots.{SlotTurns, SlotTakes, Counts, TargetKept, SlotK
 
 -- ---- one target
 
--- it stands as it did while its window is as it was
+-- a player stands where it stood as long as its window is unchanged
 pub stands_in : (a : Stand) (way : List Move) (goal : List ℕ) (x : Player) (arena arena' : List (List ℕ)) (b : BenchState)
     → window_of arena' x.window ≡ window_of arena x.window → StandsOn a way goal x arena b → StandsOn a way goal x arena' b
 stands_in a way goal x arena arena' b same stands =
@@ -81,7 +81,7 @@ either_turn p = inr tt
 abbrev pub Law : {B : Type 0} → Ghosts B → Type 0
 Law {B} G = (bench : B) (c : List ℕ) → IsTrue G.tells → left (cells_half (G.state bench)) c ↔ SameOutside (G.state bench).operation (G.state bench).cells c
 
--- a turn takes the file's half on
+-- a turn continues the history of the job file
 files_on : (tells : Bool) (told : IsTrue tells) (old new : Place) (s t : BenchState) → FileTurn tells old new s t → history.GoesOn (file_half s) (file_half t)
 files_on tells told place.Closing new s t turn = (turn.moments told).goes_on
 files_on tells told old new s t turn = turn.read.moments.goes_on
@@ -109,7 +109,7 @@ counts_then tells x y arena arena' s t u going was turns = record {
       (ap is_store_fault (no_fault x.player.place going)) was.store turns.turns.store;
 }
 
--- ---- one place, whose turn it is
+-- ---- a slot that has the turn
 
 module _ {B : Type 0} (G : Ghosts B) (told : IsTrue G.tells) (a : Stand) (way : List Move) (s0 : BenchState) where
   target_then : (x : GangTarget) (mid new : Slot) (arena arena' : List (List ℕ)) (bench bench' : B) → Law G → IsReady G.tells mid arena (G.state bench)
@@ -167,7 +167,7 @@ module _ {B : Type 0} (G : Ghosts B) (told : IsTrue G.tells) (a : Stand) (way : 
       (now.ended refl).0
   since_then (slot.Open x) mid new arena arena' bench bench' law ready since turns = target_then x mid new arena arena' bench bench' law ready since turns
 
-  -- ---- one whose turn it is not
+  -- ---- a slot that doesn't have the turn
 
   same_window : (y : GangTarget) (mid : Slot) (arena arena' : List (List ℕ)) → mid ≡ slot.Open y → SameWindow mid arena arena'
       → window_of arena' y.player.window ≡ window_of arena y.player.window
@@ -193,7 +193,7 @@ module _ {B : Type 0} (G : Ghosts B) (told : IsTrue G.tells) (a : Stand) (way : 
         counts = subst (λ (b : B). Counts y.player.place s0 (G.state b)) (sym still) since.counts;
       }
 
--- ---- benches, told or not
+-- ---- benches, whether or not they tell their contents
 
 module _ {B : Type 0} (G : Ghosts B) where
   slot_kept : (x : Slot) (bench : B) → SlotKept G x bench x bench
@@ -252,7 +252,7 @@ module _ {B : Type 0} (G : Ghosts B) where
       (kept i d less) (turn.slots i other) (turn.others i d other))
       (cases_eq i target)
 
--- a target whose turn it was
+-- a target that hadn't ended and took a turn
 pub slot_went : {B : Type 0} (G : Ghosts B) (self : Slot) (x y : GangTarget) (t : Turn) (arena arena' : List (List ℕ)) (bench bench' : B) → self ≡ slot.Open x
     → t ≡ turn_of x.player.place → t ≡ turn.More
     → y.job ≡ x.job → Turns G.tells (goal_for x.job x.player (G.state bench).file) x.player arena (G.state bench) y.player arena' (G.state bench')
@@ -271,7 +271,7 @@ pub slot_took : (tells : Bool) (steps : ℕ) (self : Slot) (x y : GangTarget) (a
 slot_took tells steps self x y arena arena' s t is takes slices = subst (λ (z : Slot). SlotTakes tells steps z arena s (slot.Open y) arena' t) (sym is)
     (λ going. (y, refl, takes, slices))
 
--- one that has ended does nothing
+-- a target that has ended does nothing in its turn
 pub slot_rests : (tells : Bool) (steps : ℕ) (self new : Slot) (x : GangTarget) (state : Turn) (arena arena' : List (List ℕ)) (s t : BenchState)
     → self ≡ slot.Open x → state ≡ turn_of x.player.place → state ≡ turn.Ended → SlotTakes tells steps self arena s new arena' t
 slot_rests tells steps self new x state arena arena' s t is shown over = subst (λ (z : Slot). SlotTakes tells steps z arena s new arena' t) (sym is)
@@ -281,7 +281,7 @@ pub going_of : (p : Place) → turn_of p ≡ turn.More → IsUnended p
 going_of (place.Ended e) more = cc
 going_of p more = tt
 
--- one that hasn't is ready
+-- a target that hasn't ended is ready
 pub ready_more : (tells : Bool) (self : Slot) (x : GangTarget) (state : Turn) (arena : List (List ℕ)) (b : BenchState) → self ≡ slot.Open x
     → state ≡ turn_of x.player.place → state ≡ turn.More → IsReady tells self arena b → Ready tells x arena b
 ready_more tells self x state arena b is shown more ready =
@@ -289,7 +289,7 @@ ready_more tells self x state arena b is shown more ready =
 
 -- ---- what a turn keeps
 
--- the window of a place, if it has one
+-- the window of a slot, if it has one, is still its window
 abbrev pub KeepsWindow : Slot → Slot → Type 0
 KeepsWindow (slot.Refused e) new = new ≡ slot.Refused e
 KeepsWindow (slot.Open x) new = (y : GangTarget) × (new ≡ slot.Open y) × (y.player.window ≡ x.player.window)
@@ -318,7 +318,7 @@ only_count : (w : ℕ) (arena arena' : List (List ℕ)) → OnlyIn w arena arena
 only_count w arena arena' only = ap (λ (l : List (List ℕ)). length l) only ∙ length-set arena w (window_of arena' w)
 
 module _ {B : Type 0} (G : Ghosts B) (arena arena' : List (List ℕ)) (bench bench' : B) where
-  -- by whether it had ended
+  -- one turn of a slot over this arena and this bench
   abbrev Turned : Slot → Slot → Type 0
   Turned x y = SlotTurns G x arena bench y arena' bench'
 
@@ -385,7 +385,7 @@ module _ {B : Type 0} (G : Ghosts B) (arena arena' : List (List ℕ)) (bench ben
       by_place place.Closing is = absurd (over_going y.player.place (by place.Closing is).over going)
       by_place (place.Ended e) is = by_read (by (place.Ended e) is).read
 
-  -- an end is one by its script, or a refusal
+  -- the end of a target with a script is one of its script
   place_lawful : (has : Bool) (moved : RegionIndex) (p : Place) (size : ℕ) (b : BenchState) → IsPlace G.tells has moved p size b → EndsByScript p
   place_lawful has moved (place.Ended e) size b is = of_script G.tells size e b is
   place_lawful has moved p size b is = tt
@@ -411,7 +411,7 @@ module _ {B : Type 0} (G : Ghosts B) (arena arena' : List (List ℕ)) (bench ben
       (λ still. still_ready x went.0 (G.state bench) (G.state bench') (ready going) went.2 still))
       (either_turn x.player.place)
 
--- a target whose turn it isn't
+-- a target fits a new arena as long as its own window is unchanged
 fit_in : (tells : Bool) (x : Player) (arena arena' : List (List ℕ)) (b : BenchState) → window_of arena' x.window ≡ window_of arena x.window
     → length arena' ≡ length arena → Fit tells x arena b → Fit tells x arena' b
 fit_in tells x arena arena' b same count fit = record {
@@ -602,7 +602,7 @@ playing_here G g benches law gang places ready = record {
   kept = kept_here G g benches;
 }
 
--- with others behind them
+-- two lists of turns, one after the other, are the turns of both lists
 gives_both : {B : Type 0} (G : Ghosts B) (asked more : List Asked) (old mid new : Gang) (benches between after : List B)
     → GivesTurns G asked old benches mid between → GivesTurns G more mid between new after
     → GivesTurns G (asked ++ more) old benches new after
@@ -611,14 +611,14 @@ gives_both {B} G [] more old mid new benches between after was then =
 gives_both G (first ∷ rest) more old mid new benches between after was then =
     (was.0, was.1, was.2, gives_both G rest more was.0 mid new was.1 between after was.3 then)
 
--- with one turn more behind them
+-- a list of turns and one turn more are the turns of the longer list
 gives_then : {B : Type 0} (G : Ghosts B) (asked : List Asked) (next : Asked) (old mid new : Gang) (benches between after : List B)
     → GivesTurns G asked old benches mid between → GivesTurn G next mid between new after
     → GivesTurns G (asked ++ next ∷ []) old benches new after
 gives_then G asked next old mid new benches between after was one = gives_both G asked (next ∷ []) old mid new benches between after was
     (new, after, one, (refl, refl))
 
--- with the next of those that are asked for
+-- the first `i` turns of a list and the next one are its first `i + 1`
 pub gives_on : {B : Type 0} (G : Ghosts B) (asked : List Asked) (i : ℕ) (d : Asked) (old mid new : Gang) (benches between after : List B) → i < length asked
     → GivesTurns G (take i asked) old benches mid between
     → GivesTurn G (get_or asked i d) mid between new after → GivesTurns G (take (i + 1) asked) old benches new after
@@ -678,7 +678,7 @@ round_on {B} G old mid new benches between after target before now t law was one
         below : (i : ℕ) → i < target + 1 → i ≢ target → i < target
         below i less other = ⊎_elim (λ (l : i < target). l) (λ (l : target ≤ i). absurd (other (omega (arith, l, less)))) (cases_lt i target)
 
--- one turn more of a round
+-- the turns of a round so far, and that of the next target
 pub round_then : {B : Type 0} (G : Ghosts B) (steps target : ℕ) (old mid new : Gang) (benches between after : List B)
     → GivesTurns G (one_round steps target) old benches mid between → GivesTurn G (record { target = target; steps = steps }) mid between new after
     → GivesTurns G (one_round steps (target + 1)) old benches new after
@@ -687,7 +687,7 @@ round_then G steps target old mid new benches between after was one =
     subst (λ (n : ℕ). GivesTurns G (one_round steps n) old benches new after) next
     (gives_then G (one_round steps target) (record { target = target; steps = steps }) old mid new benches between after was one)
 
--- one round more
+-- whole rounds and one more round are whole rounds
 pub round_more : {B : Type 0} (G : Ghosts B) (steps : ℕ) (old mid new : Gang) (benches between after : List B) → length between ≡ length benches
     → GivesRounds G steps old benches mid between
     → GivesTurns G (one_round steps (length between)) mid between new after → GivesRounds G steps old benches new after

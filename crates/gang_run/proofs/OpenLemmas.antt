@@ -1,4 +1,4 @@
--- The opening of one place of a gang.
+-- The opening of one slot of a gang.
 use Rattle.std.proofs.Common.{◌≡◌, ◌<◌, ◌+◌, ◌^◌, ◌∙◌, ◌++◌, ℕ, Bool, IsTrue, All, List, [], ◌∷◌, length, replicate}
 use Rattle.std.proofs.Common.{Option, Some, None, IsSomeAnd, IfSome, Result}
 use Rattle.std.proofs.Common.{Ok, Err, IfOk, OnOk, refl, sym, ap, subst, arith}
@@ -42,7 +42,7 @@ use Rattle.flash_session.specs.declared.fault.SurveyFault.{SurveyFault}
 use Rattle.flash_session.specs.Parts.{IsPlayerOf}
 use Rattle.flash_session.proofs.GoLemmas.{player_fit}
 
--- ---- what was surveyed, where it is told
+-- ---- what was surveyed, where the bench tells its contents
 
 planned_as : (tells : Bool) (b : BoardShown) (region : ℕ) (algorithms : List AlgorithmShown) (cells goal cells' goal' : List ℕ) (regions : List Planned)
     → (IsTrue tells → cells' ≡ cells) → (IsTrue tells → goal' ≡ goal)
@@ -74,7 +74,7 @@ found_as tells j g file cells file' cells' w one two found = record {
 
 -- ---- a target of a survey
 
--- behind the survey
+-- after the survey
 module _ (tells : Bool) (j : Job) (window : ℕ) (s t : BenchState) (reads : IsRead tells s t) (count : s.cell_count ≡ size_of j.board.regions)
     (idle : IsTrue tells → s.operation ≡ None)
     (stands : IsTrue tells → StandsFor j s.file) (only : IsTrue tells → LeftOnly s.file (file_half s)) where
@@ -146,7 +146,7 @@ module _ (tells : Bool) (j : Job) (window : ℕ) (s t : BenchState) (reads : IsR
       (record { memory = gives.1; store = store; device = device })
   surveyed_so o r (Err e) found gives store device = tt
 
--- what the parts of a session become
+-- the slot that the parts of a session become
 pub parts_to : (o : Option Surveyed) (j : Job) (window : ℕ) (parts : Parts) (p : Slot) → parts.job ≡ j → IfSome o (λ w. IsPlayerOf j w parts.player)
     → ((k : Job) (w : Surveyed) → parts.job ≡ k → IsPlayerOf k w parts.player → IsTargetOf k w window p) → IfSome o (λ w. IsTargetOf j w window p)
 parts_to None j window parts p job is made = tt
@@ -163,7 +163,7 @@ looked_then tells s m t one read pairs = record {
       pairs);
 }
 
--- ---- behind the opening of the job
+-- ---- after the opening of the job
 
 module _ (tells : Bool) (j : Job) (window : ℕ) (s m t : BenchState) (stands : IsTrue tells → StandsFor j s.file)
     (count : size_of j.board.regions ≡ m.cell_count) (looked : IsLookedAt tells s m) (store : m.store_faults ≡ s.store_faults)
@@ -232,7 +232,7 @@ unopened_device T tells fault s t is refused sound store device = record {
 
 -- ---- a bench whose job file failed
 
--- its place is put behind those before it
+-- the slot of a bench whose job file failed is added after those before it
 pub put_unread : (p : Slot) (slots : List Slot) (sizes : List ℕ) (slots' : List Slot) (sizes' : List ℕ) (r : Result (Unit {0}) OutOfMemory)
     → PutsSlot p slots sizes slots' sizes' r → p ≡ unread → OnOk r (slots' ≡ slots ++ (unread ∷ []))
 put_unread p slots sizes slots' sizes' (Ok u) puts is = puts.0 ∙ ap (λ (q : Slot). slots ++ (q ∷ [])) is

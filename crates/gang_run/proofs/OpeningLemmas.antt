@@ -62,7 +62,7 @@ now_among tells sizes (slot.Open x) s t is = (
   subst (λ (i : ℕ). IsReadyIn tells i x s t) (sym is.window_is) is,
 )
 
--- the next window is no one of those before
+-- the next window is none of those before it
 next_apart : (tells : Bool) (sizes : List ℕ) (p q : Slot) (s t u v : BenchState) → OpensAmong tells sizes p s t → Opens tells (length sizes) q u v
     → OtherWindow p q × OtherWindow q p
 next_apart tells sizes (slot.Refused e) (slot.Refused f) s t u v one two = (tt, tt)
@@ -176,7 +176,7 @@ module _ {B : Type 0} (G : Ghosts B) where
         (tt, none_apart added.slot))
         (cases_lt i upto)
 
-    -- a place other than this one is as it was
+    -- a slot other than this one is unchanged
     slot_other : (i : ℕ) → i ≢ upto → slot_in slots' i ≡ slot_in slots i
     slot_other i other = ⊎_elim
         (λ (before : i < upto). slot_before i before)
@@ -223,7 +223,7 @@ pub all_synced : {B : Type 0} (G : Ghosts B) (first now : List B) (g : Gang) (si
     → length first ≤ upto → AreSynced {E = OutOfMemory} G first now (Ok g)
 all_synced G first now g sizes upto was all i d less = was.synced i d (omega (arith, less, all))
 
--- so far, the other benches are as they were
+-- each bench so far was synced first, and the others are unchanged
 pub synced_so_far : {B : Type 0} (G : Ghosts B) (first now : List B) (slots : List Slot) (sizes : List ℕ) (upto : ℕ) → Opening G first now slots sizes upto
     → (i : ℕ) (d : B) → (get_or now i d ≡ get_or first i d) ⊎ SyncsFirst G.tells G.state G.acts (get_or first i d) (get_or now i d) (Unit {0})
 synced_so_far G first now slots sizes upto was i d = ⊎_elim
@@ -231,7 +231,7 @@ synced_so_far G first now slots sizes upto was i d = ⊎_elim
     (λ (past : upto ≤ i). inl (was.still i d past))
     (cases_lt i upto)
 
--- where the memory ended at this bench
+-- where memory ran out at this bench, each bench was synced first or is unchanged
 pub synced_last : {B F : Type 0} (G : Ghosts B) (first now : List B) (slots : List Slot) (sizes : List ℕ) (upto : ℕ) (b b' : B)
     → Opening G first now slots sizes upto → upto < length now → b ≡ get_or now upto b → SyncsFirst G.tells G.state G.acts b b' F
     → (i : ℕ) (d : B) → (get_or (set now upto b') i d ≡ get_or first i d)
@@ -307,7 +307,7 @@ module _ {B : Type 0} (G : Ghosts B) (first now : List B) (g : Gang) (sizes : Li
   pub is_gang : upto ≤ length first → IsGang g
   is_gang upto_all = record { apart = was.apart; slots = all_lawful first upto_all }
 
--- a bench that isn't touched
+-- a bench that isn't touched counts as one that was only looked at
 pub looked_here : (tells : Bool) (s : BenchState) → IsLookedAt tells s s
 looked_here tells s = record {
   file = λ told. refl;
@@ -329,7 +329,7 @@ looked_so_far {B} G first now slots sizes upto was i d = ⊎_elim
     (looked_here G.tells (G.state (get_or first i d))))
     (cases_lt i upto)
 
--- where the memory ended at this bench
+-- where memory ran out at this bench, each bench was only looked at
 pub looked_last : {B : Type 0} (G : Ghosts B) (first now : List B) (slots : List Slot) (sizes : List ℕ) (upto : ℕ) (b b' : B)
     → Opening G first now slots sizes upto → upto < length now → b ≡ get_or now upto b → IsLookedAt G.tells (G.state b) (G.state b')
     → (i : ℕ) (d : B) → IsLookedAt G.tells (G.state (get_or first i d)) (G.state (get_or (set now upto b') i d))

@@ -15,9 +15,10 @@ use Rattle.gang_run.specs.declared.slot.Slot.{Slot}
 use Rattle.gang_run.specs.declared.slot.Slot.TheVariants as slot
 use Rattle.gang_run.specs.Slots.{Counts}
 
--- Its end, its cells and its moments are an outcome of its own script. Its file is closed where it is done, and stands for its job where it
--- is not; what a stop left of both is the job whole, and from a moment on the job whole or closed with the cells at the goal, which never
--- comes with a device fault, a call that failed or a mismatch; a fault was counted where it is the end.
+-- The end of target `x`, its cells and its moments are an outcome of its own script, as if it ran alone. The job file is closed where the
+-- target is done; otherwise it still stands for the job. Before the moment `at` a stop leaves the whole job. From `at` on it leaves the
+-- whole job, or the closed file with the cells at the goal. A device fault, a failed call and a mismatch come before `at`. A fault was
+-- counted exactly where the target ended by it.
 pub record EndsAlone (a : Stand) (x : GangTarget) (s : BenchState) (new : Slot) (t : BenchState) (body : List ℕ) : Type 0 where
   pub target : GangTarget
   pub is : new ≡ slot.Open target

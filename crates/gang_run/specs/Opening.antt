@@ -32,8 +32,8 @@ use Rattle.gang_run.specs.declared.slot.Slot.TheVariants as slot
 use Rattle.gang_run.specs.Gangs.{slot_at}
 use Rattle.gang_run.specs.Slots.{OpensWithMemory, HasMemory}
 
--- A bench was looked at, and an operation that was open on it broken off: the file as read, the cells outside the operation, and the pairs
--- that a stop leaves are those of before.
+-- A bench was only looked at, and an operation that was open on it was broken off. The file as read and the cells outside that operation
+-- are unchanged, and a stop leaves only what it could leave before.
 pub record IsLookedAt (tells : Bool) (s t : BenchState) : Type 0 where
   pub file : IsTrue tells → t.file ≡ s.file
   pub same : IsTrue tells → SameOutside s.operation s.cells t.cells
@@ -43,7 +43,7 @@ pub record IsLookedAt (tells : Bool) (s t : BenchState) : Type 0 where
 abbrev pub refused_so : SessionFault → Result (Unit {0}) SessionFault
 refused_so fault = Err fault
 
--- its job was refused as a session refuses it
+-- the job of a bench wasn't opened: it was refused for a reason that a session gives for this file and number of cells
 pub record IsUnopened (tells : Bool) (fault : SessionFault) (s t : BenchState) : Type 0 where
   pub memory : OpensWithMemory fault
   pub refused : IsTrue tells → IsSessionFault s.file s.cell_count fault
@@ -52,7 +52,7 @@ pub record IsUnopened (tells : Bool) (fault : SessionFault) (s t : BenchState) :
   pub store : IsCounted s.store_faults t.store_faults (is_store_fault (session_fault fault))
   pub device : IsCounted s.device_faults t.device_faults (is_device_fault (session_fault fault))
 
--- its cells were not surveyed, by a fault that was counted
+-- the cells of a bench weren't surveyed, because of a fault that was counted
 pub record IsUnsurveyed (tells : Bool) (fault : SurveyFault) (s t : BenchState) : Type 0 where
   pub memory : HasMemory fault
   pub job : IsTrue tells → IsJobOf s.file s.cell_count
@@ -64,8 +64,8 @@ IsRefused tells (ended.Open fault) s t = IsUnopened tells fault s t
 IsRefused tells (ended.Survey fault) s t = IsUnsurveyed tells fault s t
 IsRefused tells _ s t = ⊥
 
--- A target has made no move of the script that a session which opened and surveyed the same would play, to the new goal, and its machine
--- stands where that script starts. No fault was counted.
+-- A target has made no move yet of the script that a session with this job and survey would play to the new goal. Its machine is at the
+-- start of that script. No fault was counted.
 pub record Begins (tells : Bool) (x : GangTarget) (arena : List (List ℕ)) (s t : BenchState) : Type 0 where
   pub place : x.player.place ≡ place.At (at.Begin First stage.Erase)
   pub made : x.player.made ≡ 0
@@ -84,7 +84,7 @@ abbrev pub IsOpened : Bool → Slot → List (List ℕ) → BenchState → Bench
 IsOpened tells (slot.Refused e) arena s t = IsLookedAt tells s t × IsRefused tells e s t
 IsOpened tells (slot.Open x) arena s t = IsLookedAt tells s t × Begins tells x arena s t
 
--- each bench in turn
+-- each bench was opened, and the slot of its number says how
 abbrev pub AreOpened : {B : Type 0} → Ghosts B → List B → Gang → List B → Type 0
 AreOpened {B} G benches g benches' = (i : ℕ) (d : B) → i < length benches → IsOpened G.tells (slot_at g i) g.arena (G.state (get_or benches i d))
     (G.state (get_or benches' i d))
@@ -92,12 +92,12 @@ AreOpened {B} G benches g benches' = (i : ℕ) (d : B) → i < length benches �
 abbrev pub AreLookedAt : {B : Type 0} → Ghosts B → List B → List B → Type 0
 AreLookedAt {B} G benches benches' = (i : ℕ) (d : B) → i < length benches → IsLookedAt G.tells (G.state (get_or benches i d)) (G.state (get_or benches' i d))
 
--- the place of a bench whose job file failed as it was opened
+-- the slot of a bench whose job file failed while it was opened
 abbrev pub unread : Slot
 unread = slot.Refused (ended.Open (session.Open opening.StoreFault))
 
--- The job file of each was synced before any other call on its bench. Where that failed, its place says so. Where the memory ends, a bench is
--- as it was, or its job file was synced first.
+-- The job file of each bench was synced before any other call on that bench; where the sync failed, the slot says so. Where memory ran out,
+-- each bench is unchanged, or its job file was synced first.
 abbrev pub AreSynced : {B E : Type 0} → Ghosts B → List B → List B → Result Gang E → Type 0
 AreSynced {B} G benches benches' (Ok g) = (i : ℕ) (d : B) → i < length benches
     → SyncsFirst G.tells G.state G.acts (get_or benches i d) (get_or benches' i d) (slot_at g i ≡ unread)

@@ -1,4 +1,4 @@
--- One place of a gang.
+-- One slot of a gang: a target with a script, or the end of a target without one.
 use Rattle.std.specs.Prelude.{◌≡◌, ℕ, Bool, IsTrue, IsSome, List, Option, Some, None}
 use Rattle.std.specs.Borrow.{Bor}
 use Rattle.bench_model.specs.declared.bench.Bench.{Ghosts}
@@ -41,9 +41,9 @@ abbrev pub slot_togo : Slot → ℕ
 slot_togo (slot.Refused e) = 0
 slot_togo (slot.Open x) = togo x.player
 
--- ---- what it shows
+-- ---- what a slot shows
 
--- it is no want of memory
+-- a session wasn't opened for a reason other than out of memory
 abbrev pub OpensWithMemory : SessionFault → Type 0
 OpensWithMemory session.OutOfMemory = ⊥
 OpensWithMemory (session.Open opening.OutOfMemory) = ⊥
@@ -53,7 +53,7 @@ abbrev pub HasMemory : SurveyFault → Type 0
 HasMemory survey.OutOfMemory = ⊥
 HasMemory _ = Unit {0}
 
--- an end without a script, which is never want of memory
+-- the end of a target without a script: a fault of its opening or of its survey, which is never out of memory
 abbrev pub IsRefusal : TargetEnd → Type 0
 IsRefusal (ended.Open fault) = OpensWithMemory fault
 IsRefusal (ended.Survey fault) = HasMemory fault
@@ -68,13 +68,13 @@ abbrev pub IsSlot : Slot → Type 0
 IsSlot (slot.Refused e) = IsRefusal e
 IsSlot (slot.Open x) = EndsByScript x.player.place
 
--- none where it hasn't ended
+-- the end of a slot's target: none where the target hasn't ended
 abbrev pub IsSlotEnd : Slot → Option (Bor TargetEnd) → Type 0
 IsSlotEnd (slot.Refused end) None = ⊥
 IsSlotEnd (slot.Refused end) (Some e) = e.now ≡ end
 IsSlotEnd (slot.Open x) found = IsEndAt x.player.place found
 
--- none where it has no script
+-- the job of a slot's target: none where the target has no script
 abbrev pub IsSlotJob : Slot → Option (Bor Job) → Type 0
 IsSlotJob (slot.Refused end) None = Unit {0}
 IsSlotJob (slot.Refused end) (Some j) = ⊥
@@ -94,7 +94,7 @@ abbrev pub IsNoJob : Option (Bor Job) → Type 0
 IsNoJob None = Unit {0}
 IsNoJob (Some j) = ⊥
 
--- no job exactly where the end is Open or Survey
+-- there is a job unless the end is Open or Survey; with these two ends there is none
 abbrev pub HasJob : Option TargetEnd → Option (Bor Job) → Type 0
 HasJob (Some (ended.Open fault)) found = IsNoJob found
 HasJob (Some (ended.Survey fault)) found = IsNoJob found
@@ -102,8 +102,8 @@ HasJob _ found = IsSome found
 
 -- ---- a turn
 
--- what a turn asks of a target that hasn't ended: it fits its window and its bench, and the one file that a stop may leave stands for its
--- job
+-- what a turn needs of a target that hasn't ended: the target fits its window and its bench, and the only file that a stop may leave stands
+-- for its job
 pub record Ready (tells : Bool) (x : GangTarget) (arena : List (List ℕ)) (b : BenchState) : Type 0 where
   pub fit : Fit tells x.player arena b
   pub size : size_of x.job.board.regions ≡ size_for x.player
@@ -114,7 +114,7 @@ abbrev pub IsReady : Bool → Slot → List (List ℕ) → BenchState → Type 0
 IsReady tells (slot.Refused e) arena b = Unit {0}
 IsReady tells (slot.Open x) arena b = IsUnended x.player.place → Ready tells x arena b
 
--- the player of a target went on by a turn, to the goal that the file gives
+-- one turn of a target's player, towards the goal that the file gives
 pub record TargetTurns (tells : Bool) (x : GangTarget) (arena : List (List ℕ)) (s : BenchState) (y : GangTarget) (arena' : List (List ℕ))
     (t : BenchState) : Type 0 where
   pub job : y.job ≡ x.job
@@ -126,13 +126,13 @@ SlotGoes tells (slot.Refused e) arena s new arena' t = Unit {0}
 SlotGoes tells (slot.Open x) arena s new arena' t = IsUnended x.player.place → (y : GangTarget) ×
     (new ≡ slot.Open y) × TargetTurns tells x arena s y arena' t
 
--- a turn, which changes nothing where the target has ended
+-- one turn of a slot, which changes nothing where the target has ended
 pub record SlotTurns {B : Type 0} (G : Ghosts B) (old : Slot) (arena : List (List ℕ)) (bench : B) (new : Slot)
     (arena' : List (List ℕ)) (bench' : B) : Type 0 where
   pub ended : slot_turn old ≡ turn.Ended → (new ≡ old) × (arena' ≡ arena) × (bench' ≡ bench)
   pub goes : SlotGoes G.tells old arena (G.state bench) new arena' (G.state bench')
 
--- it does one thing, with so many steps asked for
+-- one turn: while a call runs, at most `steps` of its steps; otherwise one host action
 abbrev pub SlotTakes : Bool → (steps : ℕ) → Slot → List (List ℕ) → BenchState → Slot → List (List ℕ) → BenchState → Type 0
 SlotTakes tells steps (slot.Refused e) arena s new arena' t = Unit {0}
 SlotTakes tells steps (slot.Open x) arena s new arena' t = IsUnended x.player.place → (y : GangTarget) × (new ≡ slot.Open y)
@@ -141,7 +141,7 @@ SlotTakes tells steps (slot.Open x) arena s new arena' t = IsUnended x.player.pl
 
 -- ---- turns
 
--- A fault was counted exactly where the target ended so.
+-- A fault was counted exactly where the target ended by it.
 pub record Counts (p : Place) (s t : BenchState) : Type 0 where
   pub device : IsCounted s.device_faults t.device_faults (is_device_fault (place_fault p))
   pub store : IsCounted s.store_faults t.store_faults (is_store_fault (place_fault p))
@@ -153,17 +153,17 @@ pub record TargetKept (x : GangTarget) (s : BenchState) (new : Slot) (t : BenchS
   pub job : target.job ≡ x.job
   pub counts : Counts target.player.place s t
 
--- the bench of a target without a script is as it was
+-- the bench of a target without a script is unchanged; a target that hadn't ended keeps its job
 abbrev pub SlotKept : {B : Type 0} → Ghosts B → Slot → B → Slot → B → Type 0
 SlotKept G (slot.Refused e) bench new bench' = (new ≡ slot.Refused e) × (bench' ≡ bench)
 SlotKept G (slot.Open x) bench new bench' = IsUnended x.player.place → TargetKept x (G.state bench) new (G.state bench')
 
--- where it stands that hasn't ended
+-- a target that hasn't ended stands where the moves of `way` lead from `a`
 abbrev pub SlotStands : Stand → List Move → Slot → List (List ℕ) → BenchState → Type 0
 SlotStands a way (slot.Refused e) arena b = Unit {0}
 SlotStands a way (slot.Open x) arena b = IsUnended x.player.place × StandsOn a way (goal_for x.job x.player b.file) x.player arena b
 
--- a target went on from there, to the goal that the file gave
+-- a target continued its script from where it stood, towards the goal that the file gave
 pub record TargetSince (a : Stand) (way : List Move) (x : GangTarget) (s : BenchState) (new : Slot) (arena : List (List ℕ)) (t : BenchState) : Type 0 where
   pub target : GangTarget
   pub is : new ≡ slot.Open target
@@ -175,7 +175,7 @@ pub record TargetSince (a : Stand) (way : List Move) (x : GangTarget) (s : Bench
   pub guarded : (body : List ℕ) → IsWhole body s.file → Guarded body (goal_for x.job x.player s.file) target.player.place s t
   pub counts : Counts target.player.place s t
 
--- it went on from there
+-- the target of a slot continued from where it stood; a target without a script is unchanged
 abbrev pub SlotSince : Stand → List Move → Slot → BenchState → Slot → List (List ℕ) → BenchState → Type 0
 SlotSince a way (slot.Refused e) s new arena t = new ≡ slot.Refused e
 SlotSince a way (slot.Open x) s new arena t = TargetSince a way x s new arena t

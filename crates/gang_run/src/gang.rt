@@ -22,7 +22,7 @@ pub struct Gang {
     slots: Vec<Slot>,
 }
 
-/// A turn that is asked for: whose, and of how many steps at most.
+/// A turn that is asked for: the target that takes it, and the most steps that it may have.
 #[derive(Clone, Copy)]
 pub struct Asked {
     pub target: usize,
@@ -30,8 +30,9 @@ pub struct Asked {
 }
 
 impl Gang {
-    /// Opens the job of each bench in order, whose file it syncs first, and surveys it to its new goal. A refusal other than want of memory is that
-    /// target's end. Then it makes the RAM of each target that goes on, all in one allocation. There are 1 to 16 benches.
+    /// Opens the job of each bench in order and surveys it to its new goal. It syncs each job file first. A refusal is the end of that
+    /// target, unless it is out of memory. Then `open` makes the RAM of all targets that go on, in one allocation. There are 1 to 16
+    /// benches.
     ///
     /// # Errors
     ///
@@ -59,8 +60,8 @@ impl Gang {
         Ok(Gang { arena, slots })
     }
 
-    /// One turn of a target: while a call runs, its next steps, at most so many; else one host action. A turn of a target that has ended
-    /// changes nothing. No bench and no window is touched but that target's own. It takes no memory.
+    /// One turn of a target: while a call runs, at most `steps` of its steps; otherwise one host action. A turn of a target that has ended
+    /// changes nothing. It touches only the target's own bench and window, and takes no memory.
     pub fn turn<B: Bench>(&mut self, benches: &mut [B], target: usize, steps: u64) -> Turn
         requires gang { IsGang self.old }
         requires count { length benches.old ≡ length self.old.slots.items }
@@ -78,7 +79,7 @@ impl Gang {
         self.slots[target].state()
     }
 
-    /// How a target has ended: none exactly where it has not.
+    /// How a target has ended: none exactly where it hasn't.
     pub fn end(&self, target: usize) -> Option<&TargetEnd>
         requires { target < length self.now.slots.items }
         ensures { IsSlotEnd (slot_at self.now target) result }
@@ -94,7 +95,7 @@ impl Gang {
         self.slots[target].job()
     }
 
-    /// Turns, as they are asked for.
+    /// Gives the turns that are asked for, in order.
     pub fn turns<B: Bench>(&mut self, benches: &mut [B], asked: &[Asked])
         requires gang { IsGang self.old }
         requires count { length benches.old ≡ length self.old.slots.items }
@@ -113,7 +114,7 @@ impl Gang {
         }
     }
 
-    /// A turn of each target in order. Whether one has still to go on.
+    /// Gives each target a turn, in order. Answers whether one of them still goes on.
     pub fn round<B: Bench>(&mut self, benches: &mut [B], steps: u64) -> bool
         requires gang { IsGang self.old }
         requires count { length benches.old ≡ length self.old.slots.items }
@@ -135,7 +136,7 @@ impl Gang {
         goes_on
     }
 
-    /// Rounds until all have ended.
+    /// Gives rounds until all targets have ended.
     pub fn run<B: Bench>(&mut self, benches: &mut [B], steps: u64)
         requires gang { IsGang self.old }
         requires count { length benches.old ≡ length self.old.slots.items }
@@ -156,11 +157,11 @@ impl Gang {
         }
     }
 
-    /// Gives up the targets, and gives back the memory of all of them.
+    /// Ends the gang and frees the memory of all its targets.
     pub fn free(self) {}
 }
 
-/// Whether one goes on, of those before and this one.
+/// Whether this target or one before it goes on.
 fn still(goes_on: bool, turn: Turn) -> bool
     ensures more { turn ≡ a_turn.More → result ≡ true }
     ensures ended { turn ≡ a_turn.Ended → result ≡ goes_on }

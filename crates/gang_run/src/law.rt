@@ -22,20 +22,20 @@ pub fn jobs_are_lent()
     ensures { (g : Gang) (i : ℕ) (found : Option (Bor Job)) → IsGang g → IsSlotJob (slot_at g i) found → HasJob (slot_end (slot_at g i)) found }
 {}
 
-/// Before any turn each target stands where it stands.
+/// Before the first turn of a list each target is where it was.
 pub fn turns_begin<B: Bench>()
     ensures { (g : Gang) (benches : List B) → IsGang g → length benches ≡ length g.slots.items → AreReady B.Bench g benches
         → Playing B.Bench g benches g benches }
 {}
 
-/// With one turn more each target still went on from where it stood. So it did after any list of turns.
+/// If each target continued from where it stood, it still did so after one turn more. So this holds after any list of turns.
 pub fn turns_go_on<B: Bench>()
     ensures { (old mid new : Gang) (benches between after : List B) (target : ℕ) → Playing B.Bench old benches mid between
         → OneTurn B.Bench target mid between new after → IsGang new → AreReady B.Bench new after
         → Playing B.Bench old benches new after }
 {}
 
-/// After any turns each target that has ended, and had made no move before them, ended as it could alone.
+/// After any list of turns, a target that had made no move before them and has ended is one that ended as it could alone.
 pub fn targets_end_as_alone<B: Bench>()
     ensures { (old new : Gang) (benches after : List B) (i : ℕ) (d : B) (a : Stand) (x : GangTarget) (body : List ℕ) → IsTrue B.tells
         → AllSince B.Bench old benches new after → i < length benches

@@ -1,4 +1,4 @@
-//! Several targets by turns, each with its own bench, over the windows of one arena.
+//! Drives several targets by turns, each with its own bench, over the windows of one arena.
 //!
 //! `specs/Gangs` says what a turn does to a gang and to its benches, and what any list of turns does. The laws say that each target ends as
 //! it could alone, after any list of turns.

@@ -22,7 +22,7 @@ use flash_session::{Goal, Parts, Session, SessionFault, SurveyFault, TargetEnd};
 use job_file::OpenFault;
 use std::alloc::Global;
 
-/// A target of what a session gave up, with this window.
+/// Makes a target of the parts of a session, with this window.
 fn make_slot(parts: Parts, window: usize) -> Slot
     ensures { (j : Job) (w : Surveyed) → parts.job ≡ j → IsPlayerOf j w parts.player → IsTargetOf j w window result }
 {
@@ -32,7 +32,7 @@ fn make_slot(parts: Parts, window: usize) -> Slot
     Slot::Open(GangTarget { job, player })
 }
 
-/// The place of a session's job whose survey answered so: a target with this window, or how it has ended.
+/// The slot of a session's job after its survey: a target with this window, or how it has ended.
 fn slot_of(
     session: Session,
     window: usize,
@@ -53,7 +53,7 @@ fn slot_of(
     }
 }
 
-/// The place of a job whose survey was refused: how it has ended.
+/// The slot of a job whose survey was refused: how its target has ended.
 fn refused(fault: SurveyFault) -> Result<Slot, OutOfMemory>
     ensures { (j : Job) (found : Option Surveyed) (window : ℕ) → GivesSlot j found window (Err fault) result }
 {
@@ -84,7 +84,8 @@ fn survey_slot<B: Bench>(
     slot_of(session, window, found)
 }
 
-/// Opens and surveys the job of a bench, and makes a target of it, with this window. A refusal other than want of memory is its end.
+/// Opens and surveys the job of a bench, and makes a target of it, with this window. A refusal is the target's end, unless it is out of
+/// memory.
 fn open_slot<B: Bench>(alloc: Global, bench: &mut B, window: usize) -> Result<Slot, OutOfMemory>
     ensures slot { IfOk result (λ slot. Opens B.tells window slot (B.state bench.old) (B.state bench.new)) }
     ensures looked { IsLookedAt B.tells (B.state bench.old) (B.state bench.new) }
@@ -127,7 +128,7 @@ fn add_window(size: Option<u32>, sizes: &mut Vec<u32>) -> Result<(), OutOfMemory
     }
 }
 
-/// Opens a bench, and adds its place and its window to those before it.
+/// Opens a bench, and adds its slot and its window to those before it.
 pub(crate) fn add_slot<B: Bench>(
     alloc: Global,
     bench: &mut B,
@@ -144,7 +145,7 @@ pub(crate) fn add_slot<B: Bench>(
     }
 }
 
-/// Adds a place and its window.
+/// Adds a slot and its window.
 fn put_slot(slot: Slot, slots: &mut Vec<Slot>, sizes: &mut Vec<u32>) -> Result<(), OutOfMemory>
     ensures { PutsSlot slot slots.old.items sizes.old.items slots.new.items sizes.new.items result }
 {

@@ -1,4 +1,4 @@
-//! One place of a gang.
+//! One slot of a gang.
 ghost use Rattle.std.specs.Prelude.{◌≤◌};
 ghost use Rattle.gang_run.specs.Slots.{IsReady, SlotTurns, SlotTakes, slot_turn, IsSlotEnd, IsSlotJob};
 
@@ -8,7 +8,7 @@ use flash_session::{TargetEnd, Turn};
 use job_text::Job;
 use ram_arena::Arena;
 
-/// A target, whose job was opened and surveyed, or how one ended that has no script.
+/// A target whose job was opened and surveyed, or how a target without a script ended.
 #[derive(Drop)]
 pub(crate) enum Slot {
     Refused(TargetEnd),
@@ -18,7 +18,7 @@ pub(crate) enum Slot {
 impl Slot {
     ghost use Rattle.std.specs.Prelude.{◌≡◌};
 
-    /// Whether it has ended.
+    /// Whether the target has ended.
     pub fn state(&self) -> Turn
         ensures { result ≡ slot_turn self.now }
     {
@@ -28,7 +28,7 @@ impl Slot {
         }
     }
 
-    /// How it has ended: none where it has not.
+    /// How the target has ended: none where it hasn't.
     pub fn end(&self) -> Option<&TargetEnd>
         ensures { IsSlotEnd self.now result }
     {
@@ -38,7 +38,7 @@ impl Slot {
         }
     }
 
-    /// Its job: none where it has no script.
+    /// The target's job: none where it has no script.
     pub fn job(&self) -> Option<&Job>
         ensures { IsSlotJob self.now result }
     {
@@ -48,7 +48,7 @@ impl Slot {
         }
     }
 
-    /// A turn, which changes nothing where it has ended.
+    /// One turn of the target, which changes nothing where it has ended.
     pub fn turn<B: Bench>(&mut self, arena: &mut Arena, bench: &mut B, steps: u64)
         requires ready { IsReady B.tells self.old arena.old (B.state bench.old) }
         requires steps { 1 ≤ steps }

@@ -1,6 +1,6 @@
-//! Begins, opens and closes a job of the small board on benches in memory, each stopped after every number of calls and with
-//! every pick, begins and opens one of two regions, and reads files that are jobs or nearly so, of both formats. It prints what is answered,
-//! and what each file is then.
+//! Begins, opens and closes a job of the small board on benches in memory, each stopped after every number of calls and with every pick.
+//! Begins and opens a job of two regions. Reads files that are jobs or nearly so, of both formats. It prints what is answered, and what
+//! each file is then.
 //!
 //! `job.bin` is the job file of `one.toml`, `algorithm.flm`, the bytes 01 to 04 at 0x08000000 and a blank device, byte by byte as
 //! the format says, and `first.bin` the same job in the first format. `two.bin` is that of `two.toml`, both FLM files, these bytes, the byte

@@ -1,8 +1,8 @@
-//! Carries jobs to their goals case by case, from a file of steps. It prints the name of each case and how each session of it ended, and ends
-//! with an error at the first step that finds other cells or another file than it says.
+//! Carries jobs to their goals case by case, from a file of steps. It prints the name of each case and how each session of it ended. It
+//! ends with an error at the first step that finds other cells or another file than it says.
 //!
-//! A line is `case NAME`, or one of these. Numbers and bytes are in hexadecimal digits, but for FAIL, which is decimal. `BYTES*COUNT` stands
-//! for so many times these bytes, with a decimal COUNT.
+//! A line is `case NAME`, or one of these. Numbers and bytes are in hexadecimal digits, except for FAIL, which is decimal. `BYTES*COUNT`
+//! repeats these bytes COUNT times, where COUNT is decimal.
 //!
 //! - `job FAIL BOARD FLM AT IMAGE CELLS..`: a bench with these cells, whose file stands for the job that puts the bytes IMAGE to the address
 //!   AT, over these cells as its snapshot. The cell call of the number FAIL fails, or none at 0. An operation that is broken off leaves 5A.
@@ -19,8 +19,8 @@
 //! `a1_windows.flm` and `a2_windows.flm` have a device of 13 sectors of 768 cells and pages of 12, which are written over those of `a1.flm` and
 //! `a2.flm`: a page of it lies across the place 4,096, and its cells are read in three windows.
 //!
-//! The algorithms A1 to A7 are made as `target_vectors` makes them: A3 with an erase time-out of one millisecond, A2 and A4 with
-//! `arm-none-eabi-objcopy --strip-symbol=Verify` behind it, so that they have no Verify. `picky.s` says how its own file is made.
+//! The algorithms A1 to A7 are made as `target_vectors` makes them: A3 with an erase time-out of one millisecond, A2 and A4 then stripped
+//! by `arm-none-eabi-objcopy --strip-symbol=Verify`, so that they have no Verify. `picky.s` says how its own file is made.
 
 mod apart;
 pub mod carry;

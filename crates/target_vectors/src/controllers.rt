@@ -1,5 +1,5 @@
-//! Both flash controllers, row by row of their tables. It prints the name of each row that holds, and ends with an error at the first step
-//! that answers otherwise. The rows of a file are of one controller.
+//! Drives both flash controllers row by row of their tables. It prints the name of each row that holds, and ends with an error at the first
+//! step that answers otherwise. All rows of a file are of one controller.
 //!
 //! A line is `row NAME`, or one of these, with numbers in hexadecimal digits: `new BOARD CELLS FAIL` (FC1 for a file with a board,
 //! or for `areas`; the number of the cell call that fails, or 0), `fpec BOARD CELLS FAIL` (the same with FPEC),

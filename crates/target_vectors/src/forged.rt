@@ -1,6 +1,6 @@
 //! Makes FLM files and inspects them: A1 to A7 for the board of one file, F1 and A1 for those of two others, A1 and A2 for the second
-//! region of a fourth, and a listing with data and zeroed data. It prints what each file says, and its bytes; and then, of forged algorithms
-//! on five boards, whether they are A1 on a board that A1 serves.
+//! region of a fourth, and a listing with data and zeroed data. It prints what each file says, and its bytes. Then it prints, for forged
+//! algorithms on five boards, whether they are A1 on a board that A1 serves.
 
 mod data;
 mod put;
@@ -14,12 +14,12 @@ use flm_forge::{Kind, listing, listing_at};
 use put::put;
 use std::fs;
 
-/// Puts an algorithm with pages of so many bytes.
+/// Puts an algorithm with pages of `page` bytes.
 fn put_kind(rt: &HostRuntime, name: &str, kind: Kind, board: &Board, page: u32) -> Result<()> {
     put(rt, name, &listing(rt.alloc(), kind, board, page)?)
 }
 
-/// Puts algorithms for the board of a file, with pages of so many bytes.
+/// Puts algorithms for the board of a file, with pages of `page` bytes.
 fn put_kinds(rt: &HostRuntime, file: &str, page: u32, kinds: &[(&str, Kind)]) -> Result<()> {
     let board = board(rt, file)?;
     for (name, kind) in kinds {

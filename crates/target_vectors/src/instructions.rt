@@ -1,5 +1,5 @@
-//! The Armv6-M crates against what other tools and the manual say of the same code. It prints a line for each comparison, and ends with an
-//! error at the first line that differs.
+//! Compares the Armv6-M crates with what other tools and the manual say of the same code. It prints a line for each comparison, and ends
+//! with an error at the first line that differs.
 
 mod code;
 mod compiled;
@@ -22,7 +22,7 @@ fn name<'a>(names: &[&'a str], index: usize) -> Result<&'a str> {
     Ok(*names.get(index).context("a file is missing")?)
 }
 
-/// The text of such a file.
+/// The text of a file that the command line gives.
 fn text(rt: &HostRuntime, names: &[&str], index: usize) -> Result<String> {
     Ok(fs::read_to_string(rt, name(names, index)?)?)
 }

@@ -1,4 +1,4 @@
-//! The lines of the cases, and those that are printed.
+//! The lines of the cases, and the lines that are printed.
 
 use anyhow::Result;
 use row_text::number;
@@ -9,7 +9,7 @@ pub fn words(alloc: Global, line: &str) -> Result<Vec<&str>> {
     Ok(line.split_whitespace().collect::<Vec<&str>>(alloc)?)
 }
 
-/// The first of some words, as numbers. One that isn't there is 0.
+/// The first of some words, as numbers. A word that isn't there counts as 0.
 pub fn numbers<const N: usize>(words: &[&str]) -> Result<[u32; N]> {
     let mut numbers = [0; N];
     for (place, word) in numbers.iter_mut().zip(words) {

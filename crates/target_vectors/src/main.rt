@@ -1,17 +1,17 @@
-//! What instructions of Armv6-M do (`instructions`), files of flash algorithms that are made of them (`forged`), and what is done on an emulated
-//! target and to its flash, and by what: code that runs (`runs`), calls of flash algorithms (`calls`), plans for devices of any shape (`plans`), and
-//! both flash controllers, driven row by row of their tables (`controllers`).
+//! Tries instructions of Armv6-M (`instructions`), forges files of flash algorithms (`forged`), and tries an emulated target and its flash.
+//! The target runs code (`runs`) and makes calls of flash algorithms (`calls`). Plans are made for devices of any shape (`plans`), and both
+//! flash controllers are driven row by row of their tables (`controllers`).
 //!
-//! `target_vectors TABLE CODE STATEMENTS TEXT TEXT_CODE STEPS STEPS ENDS CONDITIONS COMPILED SUMS RUNS CALLS FLM PLANS ROWS..` goes through files:
-//! those of instructions, each of which is compared, and those of cases. Between them it forges files for boards and a listing in files of fixed
-//! names. How the lines of cases are read stands at the head of `runs`, `calls`, `plans::commands` and `controllers`. The plans take the geometry
-//! from an FLM file, whose size, page and sector items they change.
+//! `target_vectors TABLE CODE STATEMENTS TEXT TEXT_CODE STEPS STEPS ENDS CONDITIONS COMPILED SUMS RUNS CALLS FLM PLANS ROWS..` goes through
+//! files. It compares each file of instructions, forges files for boards and a listing in files of fixed names, and then goes through the
+//! files of cases. The heads of `runs`, `calls`, `plans::commands` and `controllers` say how the lines of cases are read. The plans take
+//! the geometry from an FLM file, and change the size, page and sector items in it.
 //!
-//! These are to be measured from outside:
+//! These commands are measured from outside:
 //!
-//! - `target_vectors measure ROUNDS FILE..` and `target_vectors measure ROUNDS` do only this step of the runs, and `target_vectors files CELLS
-//!   ROUNDS FILE..` does it over the file CELLS of 1,024 cells: a whole target with a tick for each step, over a bench in memory or over files,
-//!   and the core alone. `tests/speed.sh` does so.
+//! - `target_vectors measure ROUNDS FILE..` and `target_vectors measure ROUNDS` do only this step of the runs. `target_vectors files CELLS
+//!   ROUNDS FILE..` does it over the file CELLS of 1,024 cells. They run a whole target with a tick for each step, over a bench in memory
+//!   or over files, or the core alone. `tests/speed.sh` uses them.
 //! - `target_vectors plan FLM BYTES` makes one plan that erases and programs all of a device of that size, in sectors of 256 bytes and pages
 //!   of 16.
 #![tactic(auto)]
@@ -29,7 +29,7 @@ use anyhow::{Result, bail, ensure};
 use runs::{measure, measure_files};
 use std::{env, fs};
 
-/// What a file has cases of.
+/// The kind of cases in a file.
 #[derive(Clone, Copy)]
 enum Kind {
     Runs,
@@ -61,7 +61,7 @@ fn check_cases(rt: &HostRuntime, names: &[&str]) -> Result<()> {
     Ok(())
 }
 
-/// Goes through all files, the eleven of instructions first.
+/// Goes through all files: first the eleven of instructions, then those of cases.
 fn check_all(rt: &HostRuntime, names: &[&str]) -> Result<()> {
     ensure!(names.len() >= 11, "the files of instructions are wanted");
     instructions::check_all(rt, &names[..11])?;

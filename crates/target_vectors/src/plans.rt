@@ -21,7 +21,7 @@ pub fn check_file(rt: &HostRuntime, flm: &str, name: &str) -> Result<()> {
     run_file(rt, &flm, name)
 }
 
-/// Makes one plan for a device of so many bytes, with the FLM file of that name.
+/// Makes one plan for a device of `bytes` bytes, with the FLM file of that name.
 pub fn measure(rt: &HostRuntime, flm: &str, bytes: &str) -> Result<()> {
     let flm = fs::read(rt, flm)?;
     speed::plan_all(rt, &flm, bytes.parse::<u32>()?)

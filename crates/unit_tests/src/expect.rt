@@ -1,4 +1,4 @@
-//! What an answer has to be.
+//! Assertions about answers.
 
 use std::fmt::Debug;
 use std::process::Abort;
@@ -8,7 +8,7 @@ pub fn expect<T: Copy + Debug + PartialEq>(rt: &impl Abort, found: T, due: T) {
     assert_eq!(rt; found, due);
 }
 
-/// Asserts that all of this holds.
+/// Asserts that all of these hold.
 pub fn expect_all(rt: &impl Abort, seen: &[bool]) {
     assert!(rt; !seen.contains(&false), "{seen:?}");
 }

@@ -21,14 +21,14 @@ use std::process::Abort;
 use std::test::Fail;
 use std::{env, fs, process};
 
-/// A file of a test's own. It is there once it is written.
+/// A file that only one test uses. It exists once it is written.
 #[derive(Drop)]
 struct Temporary {
     rt: HostRuntime,
     name: Word,
 }
 
-/// A name in a folder, with this end and the number of this run.
+/// A name in a folder, with this end and with the number of this run.
 fn name_in(rt: HostRuntime, folder: &str, end: &str) -> Result<Word, OutOfMemory> {
     let id = process::id(rt.process());
     let path = format!(in rt.alloc(); "{folder}/host_files_{id}_{end}")?;
@@ -57,7 +57,7 @@ impl Temporary {
         Ok(Temporary { rt, name })
     }
 
-    /// Its name.
+    /// The name of the file.
     fn word(&self) -> Result<Word, OutOfMemory> {
         Word::copy(self.rt.alloc(), self.name.text())
     }
@@ -80,7 +80,7 @@ impl Temporary {
         symlink(&self.rt, other.name.text(), self.name.text()).is_ok()
     }
 
-    /// Whether nothing stands under the name.
+    /// Whether no file has the name.
     fn is_missing(&self) -> bool {
         matches!(fs::exists(&self.rt, self.name.text()), Ok(false))
     }
@@ -91,7 +91,7 @@ impl Temporary {
     }
 }
 
-/// So many bytes, which differ from their neighbours, and from those a window further on.
+/// `len` bytes that differ from their neighbours, and from the bytes a window further on.
 fn pattern(alloc: Global, len: usize) -> Result<Vec<u8>, AllocError>
     ensures { IfOk result (λ bytes. vec_len bytes ≡ len) }
 {
@@ -152,13 +152,13 @@ impl Files {
         Ok(Files { job, cells, bench })
     }
 
-    /// Names with these ends, and these cells.
+    /// Files with these ends of their names, and with these cells.
     fn new(rt: HostRuntime, ends: (&str, &str), bytes: &[u8]) -> Result<Files, Fail> {
         let cells = Temporary::holding(rt, ends.1, bytes)?;
         Ok(Files::over(Temporary::new(rt, ends.0)?, cells)?)
     }
 
-    /// Opens an operation on cells of the first six.
+    /// Opens an operation on some of the first six cells.
     fn open(&mut self, at: u32, len: u32) -> bool {
         len > 0
             && at < 6
@@ -180,12 +180,12 @@ impl Files {
         self.bench.file_write(at, bytes).is_ok() && self.bench.file_sync().is_ok()
     }
 
-    /// Whether the job file has so many bytes.
+    /// Whether the job file has `len` bytes.
     fn has_length(&mut self, len: u64) -> bool {
         matches!(self.bench.file_len(), Ok(found) if found == len)
     }
 
-    /// Whether these three bytes stand in the job file from a place on.
+    /// Whether the job file has these three bytes from a place on.
     fn reads(&mut self, at: u64, bytes: [u8; 3]) -> bool {
         let mut found = [0; 3];
         self.bench.file_read(at, &mut found).is_ok() && found == bytes
@@ -196,7 +196,7 @@ impl Files {
         self.job.holds(job) && self.cells.holds(cells)
     }
 
-    /// Removes both.
+    /// Removes both files.
     fn remove(&self) -> bool {
         self.job.remove() && self.cells.remove()
     }

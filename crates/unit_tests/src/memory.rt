@@ -1,4 +1,4 @@
-//! What stands for the outside in memory: counts of faults, the bench, inputs and sinks, cells read back, and RAM.
+//! The outside in memory: counts of faults, the bench, inputs and sinks, cells read back, and RAM.
 
 mod bench;
 mod cells;

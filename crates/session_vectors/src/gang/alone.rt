@@ -6,7 +6,7 @@ use flash_session::Goal;
 use gang_run::TargetEnd;
 use std::alloc::Global;
 
-/// How a target ends whose session ended so. That a job can't be closed is a fault of its file.
+/// How a target ends, from how its session ended. A job that can't be closed is a fault of its file.
 fn end_of(carried: Carried) -> TargetEnd {
     match carried {
         Carried::Refused(fault) => TargetEnd::Open(fault),
@@ -19,7 +19,7 @@ fn end_of(carried: Carried) -> TargetEnd {
     }
 }
 
-/// Opens the job of the file, brings the cells to its new goal, and closes the job. Its end is said in a target's words.
+/// Opens the job of the file, brings the cells to its new goal, and closes the job. Answers the end as that of a target.
 pub fn carry_alone(alloc: Global, bench: &mut MemoryBench) -> TargetEnd {
     end_of(carry(alloc, bench, Goal::New))
 }

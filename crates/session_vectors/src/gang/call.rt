@@ -15,7 +15,7 @@ struct Streams {
     err: MemorySink,
 }
 
-/// So many words, which name files.
+/// `count` words that could name files.
 fn words_of(alloc: Global, count: usize) -> Result<Vec<Word>> {
     let mut words = Vec::new(alloc);
     for _word in 0..count {
@@ -25,20 +25,20 @@ fn words_of(alloc: Global, count: usize) -> Result<Vec<Word>> {
 }
 
 impl Streams {
-    /// Streams on which nothing stands. The put of this number on standard output fails, or none at 0.
+    /// Streams on which nothing was put. The put of number `fail` on standard output fails, or none at 0.
     fn new(alloc: Global, fail: u64) -> Result<Streams> {
         let out = MemorySink::new(alloc, 4096, &[fail])?;
         let err = MemorySink::new(alloc, 256, &[])?;
         Ok(Streams { out, err })
     }
 
-    /// The status of a call with so many words.
+    /// Calls a gang with `count` words, and answers the status.
     fn answer<B: Bench>(&mut self, alloc: Global, count: usize, benches: &mut [B]) -> Result<u8> {
         let words = words_of(alloc, count)?;
         Ok(flash_gang(alloc, &words, benches, &mut self.out, &mut self.err))
     }
 
-    /// Prints what was put on standard output and on standard error by a call with so many words, and its status.
+    /// Prints what a call with `count` words put on standard output and on standard error, and its status.
     fn print(&self, rt: &HostRuntime, count: usize, status: u8) -> Result<()> {
         let out = str::from_utf8(self.out.bytes())?;
         let err = str::from_utf8(self.err.bytes())?;
@@ -47,8 +47,8 @@ impl Streams {
     }
 }
 
-/// Calls a gang with so many words. The put of this number on standard output fails, or none at 0. Prints what was put and the status, which it
-/// answers.
+/// Calls a gang with `count` words. The put of number `fail` on standard output fails, or none at 0. Prints what was put, and prints and
+/// answers the status.
 pub fn call<B: Bench>(rt: &HostRuntime, count: usize, fail: u64, benches: &mut [B]) -> Result<u8> {
     let mut streams = Streams::new(rt.alloc(), fail)?;
     let status = streams.answer(rt.alloc(), count, benches)?;

@@ -14,15 +14,15 @@ const TURNS: u32 = 100_000_000;
 /// Which turns a gang is given.
 #[derive(Clone, Copy)]
 pub enum Turns {
-    /// One by one in an order, of so many steps at most, until all have ended.
+    /// One turn after the other in an order, each of at most `steps` steps, until all targets have ended.
     Ordered { order: Order, steps: u64 },
-    /// A list of 64 that are drawn, and rounds to the end.
+    /// A list of 64 drawn turns, and then rounds to the end.
     Listed { seed: u32 },
-    /// Four times so many that are drawn.
+    /// Drawn turns, four for each of `fours`.
     Stopped { seed: u32, fours: u32 },
 }
 
-/// Gives turns in an order until each target has ended. How many they were, where they are few enough.
+/// Gives turns in an order until each target has ended. Answers how many turns there were, if they are at most `TURNS`.
 fn play<B: Bench>(gang: &mut Gang, benches: &mut [B], order: Order, steps: u64) -> Option<u32>
     requires gang { IsGang gang.old }
     requires count { length benches.old ≡ length gang.old.slots.items }
@@ -45,7 +45,7 @@ fn play<B: Bench>(gang: &mut Gang, benches: &mut [B], order: Order, steps: u64) 
     None
 }
 
-/// Whether so many targets have ended.
+/// Whether the first `count` targets have ended.
 fn have_ended(gang: &Gang, count: usize) -> bool
     requires { count ≤ length gang.now.slots.items }
 {
@@ -57,7 +57,7 @@ fn have_ended(gang: &Gang, count: usize) -> bool
     true
 }
 
-/// Gives four times as many turns, which are drawn, with their steps.
+/// Gives drawn turns of drawn lengths, four for each of `fours`.
 fn play_drawn<B: Bench>(gang: &mut Gang, benches: &mut [B], seed: u32, fours: u32)
     requires gang { IsGang gang.old }
     requires count { length benches.old ≡ length gang.old.slots.items }
@@ -81,7 +81,7 @@ fn play_drawn<B: Bench>(gang: &mut Gang, benches: &mut [B], seed: u32, fours: u3
     }
 }
 
-/// Gives a gang its turns. How many were given one by one, and none where a target goes on after them.
+/// Gives a gang its turns. Answers how many were given one by one, or none where a target still goes on after them.
 fn give<B: Bench>(gang: &mut Gang, benches: &mut [B], turns: Turns) -> Option<u32>
     requires gang { IsGang gang.old }
     requires count { length benches.old ≡ length gang.old.slots.items }
@@ -109,7 +109,7 @@ fn give<B: Bench>(gang: &mut Gang, benches: &mut [B], turns: Turns) -> Option<u3
     }
 }
 
-/// Opens a gang and gives it its turns. It says how many were given one by one.
+/// Opens a gang and gives it its turns. Answers the gang and how many turns were given one by one.
 pub fn drive(alloc: Global, benches: &mut [MemoryBench], turns: Turns) -> Result<(Gang, u32)>
     ensures { IfOk result (λ driven. length driven.0.slots.items ≡ length benches.new) }
 {

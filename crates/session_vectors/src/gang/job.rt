@@ -13,7 +13,7 @@ const CELLS: usize = 1024;
 /// The most cells that a bench has here.
 const MOST: usize = 1 << 20;
 
-/// A bench with the file of a begun job, and the cells that the job is to bring there. The cell call of the number `fail` fails, or none at 0.
+/// A bench with the file of a begun job, and the cells that the job is to leave there. The cell call of number `fail` fails, or none at 0.
 #[derive(Drop)]
 pub struct Job {
     pub file: Vec<u8>,
@@ -22,7 +22,7 @@ pub struct Job {
     pub fail: u64,
 }
 
-/// Appends the cells, of which so many hold their place modulo 256.
+/// Appends the cells of a device: the first `count` hold their place modulo 256, and the others FF.
 fn put_cells(cells: &mut Vec<u8>, count: usize) -> Result<()> {
     for place in 0..CELLS {
         let cell = if place < count {
@@ -66,7 +66,7 @@ impl Job {
         })
     }
 
-    /// Sets so many cells to a byte.
+    /// Sets `len` cells to a byte.
     pub fn tear(&mut self, value: u8, from: usize, len: usize) -> Result<()> {
         for cell in self.cells.iter_mut().skip(from).take(len) {
             *cell = value;
@@ -74,13 +74,13 @@ impl Job {
         Ok(())
     }
 
-    /// Makes its file none of a job.
+    /// Makes the job's file one that is no job.
     pub fn spoil(&mut self, alloc: Global) -> Result<()> {
         self.file = Vec::from_slice(alloc, b"no job")?;
         Ok(())
     }
 
-    /// The job as a bench holds it, of which no call fails.
+    /// The job as a bench holds it. None of its calls fails.
     pub fn left(&self, alloc: Global, bench: &MemoryBench) -> Result<Job> {
         Ok(Job {
             file: Vec::from_slice(alloc, bench.file())?,
@@ -90,7 +90,7 @@ impl Job {
         })
     }
 
-    /// Its bench. An operation that is broken off leaves 5A, and the next one 33.
+    /// A bench that holds the job. An operation that is broken off leaves 5A, and the next one 33.
     pub fn bench(&self, alloc: Global) -> Result<MemoryBench> {
         let cells = &self.cells[..self.cells.len().min(MOST)];
         let room = 1 << 18;

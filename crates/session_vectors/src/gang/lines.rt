@@ -1,23 +1,24 @@
-//! The lines of the gangs, with numbers in decimal digits, but for the address and the bytes of an image.
+//! The lines of the gangs, with numbers in decimal digits, except for the address and the bytes of an image.
 //!
 //! - `gang NAME` begins a gang without targets.
-//! - `job FLM AT IMAGE COUNT`: a target with the begun job of the small board that puts the bytes IMAGE, in pairs of hexadecimal digits, to the
-//!   address AT. Its snapshot has each of the first COUNT cells at its place modulo 256, and FF behind them; so are its cells.
-//! - `torn VALUE FROM LEN`: so many cells of the last target hold this byte, as a stop may leave them. `fail NUMBER`: the call on its cells of this
-//!   number fails. `none`: its file is no job.
+//! - `job FLM AT IMAGE COUNT`: a target with the begun job of the small board that puts the bytes IMAGE, in pairs of hexadecimal digits, to
+//!   the address AT. In its snapshot each of the first COUNT cells holds its place modulo 256, and the others hold FF. Its cells are the
+//!   same.
+//! - `torn VALUE FROM LEN`: LEN cells of the last target hold this byte, as a stop may leave them. `fail NUMBER`: the call of this number
+//!   on its cells fails. `none`: its file is no job.
 //! - `alone`: carries the job of each target alone, and prints how it ends, and whether the cells are then the image over the snapshot.
-//! - `turns ORDER STEPS`: a gang that has turns of so many steps at most, in the order `forward`, `backward` or the one drawn by a number as
-//!   the seed.
+//! - `turns ORDER STEPS`: a gang that has turns of at most STEPS steps. The order is `forward`, `backward` or a number, which is the seed
+//!   of a drawn order.
 //! - `takes COUNT...`: how many turns the job of each target takes alone where a turn may have all steps of a call. A phase takes one for its
 //!   reset with the load and two for each of its calls, its preparing and its run; then come the last reset, one comparison for 4,096 cells
 //!   and the close, up to the turn that ends it.
-//! - `lists COUNT`: so many gangs, each with 64 turns that are drawn with their steps, and then rounds to the end.
-//! - `stops COUNT`: so many gangs, each stopped after turns that are drawn, with each pick. A second gang carries on what is left, and so does
-//!   each target alone.
-//! - `call WORDS [PUT]`: the call of a gang on the benches of the targets, with so many words, of which the put of this number on standard
-//!   output fails. It prints what was put and the status; each target ends as it does alone, or with status 2 stays as it was.
-//! - `share`: the call of a gang on two benches with the job of the first target, of which each has its first operation before either has its
-//!   last one.
+//! - `lists COUNT`: COUNT gangs, each with 64 drawn turns of drawn lengths, and then rounds to the end.
+//! - `stops COUNT`: COUNT gangs, each stopped after drawn turns, with each pick. A second gang carries on what is left, and so does each
+//!   target alone.
+//! - `call WORDS [PUT]`: the call of a gang on the benches of the targets, with WORDS words. The put of number PUT on standard output
+//!   fails. It prints what was put and the status. Each target ends as it does alone, or with status 2 stays as it was.
+//! - `share`: the call of a gang on two benches with the job of the first target. Each target begins its first operation before either of
+//!   them ends its last one.
 
 use crate::gang::gangs::Turns;
 use crate::gang::job::Job;
@@ -39,7 +40,7 @@ pub fn go_through(rt: &HostRuntime, text: &str) -> Result<()> {
     Ok(())
 }
 
-/// Goes through the lines of a gang, of which the first is its name.
+/// Goes through the lines of a gang. The first line is its name.
 fn go_through_one(rt: &HostRuntime, team: &mut Team, text: &str) -> Result<()> {
     let (name, lines) = text.split_once('\n').context("no target")?;
     put_line(rt, name)?;
@@ -75,7 +76,7 @@ fn tear(job: &mut Job, words: &[&str]) -> Result<()> {
     job.tear(value, from, len.parse::<usize>()?)
 }
 
-/// Changes a job as a word and those behind it say.
+/// Changes a job as a word and the words after it say.
 fn change(alloc: Global, job: &mut Job, word: &str, words: &[&str]) -> Result<()> {
     match word {
         "torn" => tear(job, words),
@@ -100,7 +101,7 @@ fn take_turns(rt: &HostRuntime, team: &Team, line: &str, words: &[&str]) -> Resu
     Ok(())
 }
 
-/// Calls a gang with so many words, of which the put of the second number fails, if there is one.
+/// Calls a gang with the number of words that the first word says. The second word, if there is one, says which put fails.
 fn call(rt: &HostRuntime, team: &Team, words: &[&str]) -> Result<()> {
     let [count, put @ ..] = words else {
         bail!("WORDS [PUT] is wanted");

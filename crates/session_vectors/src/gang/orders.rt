@@ -4,7 +4,7 @@ ghost use Rattle.std.specs.Prelude.{◌<◌, ◌≤◌};
 use anyhow::Result;
 use gang_run::Asked;
 
-/// In which order targets have their turns.
+/// The order in which targets have their turns.
 #[derive(Clone, Copy)]
 pub enum Order {
     Forward,
@@ -24,7 +24,7 @@ impl Order {
     }
 }
 
-/// The number after one, of a sequence that looks drawn.
+/// The number after `seed` in a sequence that looks drawn.
 pub fn after(seed: u32) -> u32 {
     seed.wrapping_mul(1664525).wrapping_add(1013904223)
 }
@@ -37,7 +37,7 @@ pub fn below(seed: u32, count: usize) -> usize
     (after(after(seed)) >> 8) as usize % count
 }
 
-/// Whose turn the one of this number is, of so many targets.
+/// Which of `count` targets has the turn of this number.
 pub fn whose(order: Order, number: u32, count: usize) -> usize
     requires { 0 < count }
     ensures { result < count }

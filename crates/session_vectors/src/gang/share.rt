@@ -7,8 +7,8 @@ use anyhow::{Result, ensure};
 use bench_model::{Bench, DeviceFault, MemoryBench, StoreFault};
 use std::cell::Cell;
 
-/// A bench that passes every call on. With the first operation on its cells it adds 1 to a number, and it notes the number at each write of its
-/// file, the last of which closes the job.
+/// A bench that passes every call on. At the first operation on its cells it adds 1 to a number. It notes that number at each write of its
+/// file. The last write closes the job.
 #[derive(Drop)]
 struct Noting<'a, B> {
     inner: B,
@@ -18,7 +18,7 @@ struct Noting<'a, B> {
 }
 
 impl<'a, B> Noting<'a, B> {
-    /// Over a bench.
+    /// A noting bench over this bench.
     fn new(inner: B, begun: &'a Cell<u32>) -> Noting<'a, B> {
         Noting {
             inner,
@@ -98,7 +98,7 @@ impl<'a, B: Bench> Bench for Noting<'a, B> {
     }
 }
 
-/// Calls a gang on two benches, and looks whether both had begun when the last write of each file was made.
+/// Calls a gang on two benches, and checks that both had begun when the last write of each file was made.
 fn call_two(rt: &HostRuntime, benches: &mut [Noting<'_, MemoryBench>]) -> Result<()> {
     let _status = call(rt, 4, 0, benches)?;
     for bench in benches.iter() {
@@ -107,7 +107,7 @@ fn call_two(rt: &HostRuntime, benches: &mut [Noting<'_, MemoryBench>]) -> Result
     put_line(rt, "both have begun when either is closed")
 }
 
-/// Calls a gang on two benches with this job, of which each begins before either is closed.
+/// Calls a gang on two benches with this job. Each job begins before either is closed.
 pub fn share_turns(rt: &HostRuntime, job: &Job) -> Result<()> {
     let begun = Cell::new(0);
     let first = Noting::new(job.bench(rt.alloc())?, &begun);

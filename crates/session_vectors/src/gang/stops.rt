@@ -8,7 +8,7 @@ use anyhow::{Result, ensure};
 use bench_model::{MemoryBench, Pick};
 use std::alloc::Global;
 
-/// Drives benches by some turns, which are drawn by a seed, and stops the power.
+/// Drives benches by turns that are drawn from a seed, and stops the power.
 fn stop(alloc: Global, benches: &mut [MemoryBench], seed: u32, pick: Pick) -> Result<()> {
     let fours = seed % 1024;
     let (gang, _given) = drive(alloc, benches, Turns::Stopped { seed, fours })?;
@@ -52,7 +52,7 @@ fn carry_on(alloc: Global, left: &mut Team, seed: u32, tally: &mut Tally) -> Res
     Ok(())
 }
 
-/// Counts the jobs that were closed, whose cells are their goals.
+/// Counts the jobs that were closed. Their cells must be their goals.
 fn count_closed(left: &Team, tally: &mut Tally) -> Result<()> {
     for job in left.jobs.iter() {
         if job.file.first() == Some(&0x00) {
@@ -66,7 +66,7 @@ fn count_closed(left: &Team, tally: &mut Tally) -> Result<()> {
     Ok(())
 }
 
-/// Stops so many gangs, with each pick, and carries on what is left. Prints how many jobs were closed before a stop or are done after it.
+/// Stops `count` gangs, with each pick, and carries on what is left. Prints how many jobs were closed before a stop or are done after it.
 pub fn stop_gangs(rt: &HostRuntime, team: &Team, count: u32) -> Result<()> {
     let mut tally = Tally { closed: 0, done: 0 };
     for number in 0..count {

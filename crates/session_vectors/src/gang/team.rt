@@ -1,4 +1,4 @@
-//! The targets of a gang, each with how it ends alone.
+//! The targets of a gang, and how each of them ends alone.
 ghost use Rattle.std.specs.Prelude.{◌≡◌, length};
 
 use crate::gang::alone::carry_alone;
@@ -26,7 +26,7 @@ pub struct Team {
     alone: Vec<Alone>,
 }
 
-/// Whether a target that ended so has no job.
+/// Whether a target with this end has no job.
 fn is_refused(end: TargetEnd) -> bool {
     match end {
         TargetEnd::Open(_) | TargetEnd::Survey(_) => true,
@@ -34,7 +34,7 @@ fn is_refused(end: TargetEnd) -> bool {
     }
 }
 
-/// Looks whether a bench has these cells and this file.
+/// Checks that a bench has these cells and this file.
 fn look(target: usize, bench: &MemoryBench, cells: &[u8], file: &[u8]) -> Result<()> {
     let wrong = if bench.cells() != cells {
         "other cells"
@@ -58,7 +58,7 @@ fn put_alone(rt: &HostRuntime, job: &Job, alone: &Alone) -> Result<()> {
     }
 }
 
-/// How many turns a job takes in a gang of its own, where each call has all its steps in one.
+/// How many turns a job takes in a gang of its own, where one turn has all steps of a call.
 fn count_turns(alloc: Global, job: &Job) -> Result<u32> {
     let order = Order::Forward;
     let steps = u64::MAX;
@@ -124,14 +124,14 @@ impl Team {
         ends.count()
     }
 
-    /// Looks whether a target ended as it does alone.
+    /// Checks that a target ended as it does alone.
     fn check_one(&self, target: usize, end: TargetEnd, bench: &MemoryBench) -> Result<()> {
         let alone = self.alone.get(target).context("no such target")?;
         ensure!(end == alone.end, "{target}: {end:?}, alone {:?}", alone.end);
         look(target, bench, alone.bench.cells(), alone.bench.file())
     }
 
-    /// Looks whether each target of a gang ended as it does alone.
+    /// Checks that each target of a gang ended as it does alone.
     fn check(&self, gang: &Gang, benches: &[MemoryBench]) -> Result<()>
         requires { length gang.now.slots.items ≡ length benches.now }
     {
@@ -148,7 +148,7 @@ impl Team {
         Ok(())
     }
 
-    /// Drives the jobs by turns, and looks whether each ends as alone.
+    /// Drives the jobs by turns, and checks that each ends as it does alone.
     pub fn take(&self, alloc: Global, turns: Turns) -> Result<()> {
         let mut benches = self.benches(alloc)?;
         let (gang, _given) = drive(alloc, &mut benches, turns)?;
@@ -157,7 +157,7 @@ impl Team {
         checked
     }
 
-    /// Looks whether each job takes so many turns, and prints them.
+    /// Checks that the jobs take these numbers of turns, and prints them.
     pub fn take_counts(&self, rt: &HostRuntime, counts: &[&str]) -> Result<()> {
         ensure!(counts.len() == self.jobs.len(), "a count for each target");
         for (job, count) in self.jobs.iter().zip(counts.iter()) {
@@ -168,7 +168,7 @@ impl Team {
         put_line(rt, "turns")
     }
 
-    /// Drives the jobs by so many lists of turns, and prints how many ends there were, and how many done.
+    /// Drives the jobs by `count` lists of turns. Prints how many ends there were, and how many of them were done.
     pub fn take_lists(&self, rt: &HostRuntime, count: u32) -> Result<()> {
         let mut ends = 0usize;
         let mut done = 0usize;
@@ -182,7 +182,7 @@ impl Team {
         Ok(())
     }
 
-    /// Looks whether a bench is as its target leaves it alone, or as it was.
+    /// Checks that a bench is as its target leaves it alone, or unchanged where the gang didn't begin.
     fn check_bench(&self, has_begun: bool, target: usize, bench: &MemoryBench) -> Result<()> {
         match (self.jobs.get(target), self.alone.get(target)) {
             (_, Some(alone)) if has_begun => {
@@ -193,7 +193,7 @@ impl Team {
         }
     }
 
-    /// Looks so at each bench.
+    /// Checks each bench that a call left.
     fn check_left(&self, has_begun: bool, benches: &[MemoryBench]) -> Result<()> {
         for (target, bench) in benches.iter().enumerate() {
             self.check_bench(has_begun, target, bench)?;
@@ -201,7 +201,8 @@ impl Team {
         Ok(())
     }
 
-    /// Calls a gang with so many words. The put of this number on standard output fails, or none at 0. Prints what was put and the status.
+    /// Calls a gang with `count` words. The put of number `fail` on standard output fails, or none at 0. Prints what was put and the
+    /// status.
     pub fn call(&self, rt: &HostRuntime, count: usize, fail: u64) -> Result<()> {
         let mut benches = self.benches(rt.alloc())?;
         let status = call(rt, count, fail, &mut benches)?;

@@ -3,7 +3,7 @@ use anyhow::Result;
 use bench_model::{Bench, MemoryBench};
 use std::alloc::Global;
 
-/// So many blank cells, and this file. The numbers of the file calls and of the cell calls that fail are given.
+/// A bench with this many blank cells and this file. The file call and the cell call with the given numbers fail.
 pub fn blank(
     alloc: Global,
     cells: u32,
@@ -25,7 +25,7 @@ pub fn blank(
     Ok(bench)
 }
 
-/// 1,024 blank cells, of which an operation is open on 256. It leaves 5A where it is broken off.
+/// A bench with 1,024 blank cells and an open operation on 256 of them. The operation leaves 5A where it is broken off.
 pub fn busy(alloc: Global, file: &[u8]) -> Result<MemoryBench> {
     let cells = vec![in alloc; 0xFFu8; 1024]?;
     let mut bench = MemoryBench::new(alloc, &cells, file, 0x1000, 0x4000, &[], &[], &[0x5A])?;

@@ -5,7 +5,7 @@ use job_text::{Class, class_of_file};
 use std::alloc::Global;
 use std::fmt;
 
-/// What a file is. The job is told from another one.
+/// What a file is. A file of the known job is distinguished from one of another job.
 #[derive(Clone, Copy)]
 pub enum Found {
     Free { len: usize },
@@ -27,7 +27,7 @@ impl fmt::Display for Found {
     }
 }
 
-/// What a file is. A job is told from one that `job` isn't the file of.
+/// What a file is. If it stands for a job, it is either `job`, the file of the known one, or that of another job.
 pub fn class(alloc: Global, file: &[u8], job: &[u8]) -> Result<Found> {
     let stands = if file == job {
         Found::Job

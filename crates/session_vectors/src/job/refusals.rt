@@ -35,7 +35,7 @@ fn put_file(rt: &HostRuntime, file: &[u8], job: &[u8]) -> Result<()> {
     Ok(())
 }
 
-/// Begins over a file on so many cells, where the file call and the cell call of these numbers fail, or none at 0.
+/// Begins over a file on `cells` cells. The file call and the cell call with these numbers fail, or none at 0.
 fn put_begin_on(
     rt: &HostRuntime,
     parts: &JobParts,

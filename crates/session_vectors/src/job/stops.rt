@@ -29,7 +29,7 @@ pub fn begin_job<B: Bench>(
     Ok(())
 }
 
-/// How a job is begun and closed on this bench of which so many calls go through, and what is left of it once the power went.
+/// How a job is begun and closed on this bench if only `calls` calls go through, and what is left of it after the power went.
 fn stopped(
     alloc: Global,
     parts: &JobParts,
@@ -55,7 +55,7 @@ pub fn put_end(rt: &HostRuntime, end: Result<(), BeginFault>, done: &str) -> Res
     Ok(())
 }
 
-/// Says how so many calls end.
+/// Says how a job ends if only `calls` of its calls go through.
 fn put_calls(rt: &HostRuntime, parts: &JobParts, file: &[u8], calls: u64) -> Result<()>
     requires { AreParts parts.now }
 {

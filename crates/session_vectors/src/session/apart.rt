@@ -13,7 +13,7 @@ use bench_model::{Bench, MemoryBench};
 use flash_session::Goal;
 use std::alloc::Global;
 
-/// A bench with these cells and this file. The file call of this number fails, or none at 0.
+/// A bench with these cells and this file. The file call of number `fail` fails, or none at 0.
 fn bench(alloc: Global, cells: &[u8], file: &[u8], fail: u64) -> Result<MemoryBench>
     requires { length cells.now < 2 ^ 32 }
     ensures file { IfOk result (λ bench. (shown bench).file ≡ file.now) }
@@ -26,7 +26,8 @@ fn bench(alloc: Global, cells: &[u8], file: &[u8], fail: u64) -> Result<MemoryBe
     Ok(bench)
 }
 
-/// Opens over one bench, surveys a second and goes over a third with the same file and cells, and carries the third on. Prints how.
+/// Opens a job over one bench, surveys a second one and goes over a third, which have the same file and cells. Then carries on the job of
+/// the third. Prints how each ended.
 fn put_apart<B: Bench>(rt: &HostRuntime, first: &mut B, second: &mut B, third: &mut B) -> Result<()>
     requires second_file { IsTrue B.tells → (B.state second.old).file ≡ (B.state first.old).file }
     requires second_count { (B.state second.old).cell_count ≡ (B.state first.old).cell_count }
@@ -40,7 +41,7 @@ fn put_apart<B: Bench>(rt: &HostRuntime, first: &mut B, second: &mut B, third: &
     print(rt, carry(rt.alloc(), third, Goal::New))
 }
 
-/// Does so with three benches with these cells and this file.
+/// Opens, surveys and goes over three benches with these cells and this file.
 fn go_apart(
     rt: &HostRuntime,
     cells: &[u8],
@@ -56,7 +57,8 @@ fn go_apart(
     put_apart(rt, &mut first, &mut second, &mut third)
 }
 
-/// Does it with a job. The file call SURVEY of the bench that is surveyed fails, and the file call GO of the one that it goes over.
+/// Opens, surveys and goes over three benches with a job. The file call SURVEY of the second bench fails, and the file call GO of the
+/// third.
 pub fn step_apart(rt: &HostRuntime, job: &Job, survey: &str, go: &str) -> Result<()> {
     ensure!(job.cells.len() <= 65536, "too many cells");
     let survey = survey.parse::<u64>()?;

@@ -31,7 +31,7 @@ fn put_length(file: &mut Vec<u8>, len: usize) -> Result<()> {
     Ok(())
 }
 
-/// Lays an image over cells, from a place on.
+/// Writes an image over cells, from a place on.
 fn lay(cells: &mut [u8], from: usize, image: &[u8]) -> Result<()> {
     for (offset, byte) in image.iter().enumerate() {
         match cells.get_mut(from.wrapping_add(offset)) {
@@ -61,7 +61,7 @@ impl Job {
         Ok(job)
     }
 
-    /// Reads it from some words.
+    /// Reads the job from some words.
     fn fill(&mut self, rt: &HostRuntime, words: &[&str]) -> Result<()> {
         let [board, flm, at, image, cells @ ..] = words else {
             bail!("no job");
@@ -74,7 +74,7 @@ impl Job {
         Ok(())
     }
 
-    /// Appends its lengths and its texts.
+    /// Appends the job's lengths and texts.
     fn put_texts(&self, file: &mut Vec<u8>) -> Result<()> {
         for len in [self.board.len(), self.flm.len(), 1, self.cells.len()] {
             put_length(file, len)?;
@@ -84,7 +84,7 @@ impl Job {
         Ok(())
     }
 
-    /// Appends its run and its snapshot.
+    /// Appends the job's run and snapshot.
     fn put_bytes(&self, file: &mut Vec<u8>) -> Result<()> {
         file.extend_from_slice(&self.at.to_le_bytes())?;
         put_length(file, self.image.len())?;
@@ -93,7 +93,7 @@ impl Job {
         Ok(())
     }
 
-    /// The file that stands for it.
+    /// The file that stands for the job.
     pub fn file(&self, rt: &HostRuntime) -> Result<Vec<u8>> {
         let mut file = Vec::from_slice(rt.alloc(), b"\xA5FLMJOB1")?;
         self.put_texts(&mut file)?;
@@ -101,7 +101,7 @@ impl Job {
         Ok(file)
     }
 
-    /// A bench whose file stands for it, and whose cells are its snapshot. The cell call of this number fails.
+    /// A bench whose file stands for the job, and whose cells are its snapshot. The cell call of number `fail` fails.
     pub fn bench(&self, rt: &HostRuntime, fail: u64) -> Result<MemoryBench> {
         let room = 1 << 20;
         let file = self.file(rt)?;
@@ -118,7 +118,7 @@ impl Job {
         Ok(bench)
     }
 
-    /// Its cells with the image over them.
+    /// The cells of the job with its image over them.
     pub fn goal(&self, rt: &HostRuntime) -> Result<Vec<u8>> {
         let mut goal = Vec::from_slice(rt.alloc(), &self.cells)?;
         let from = self.at.wrapping_sub(BASE) as usize;

@@ -7,7 +7,7 @@ use anyhow::Result;
 use readback::Difference;
 use target_core::{FaultKind, RunEnd};
 
-/// What stands behind a text.
+/// What comes after a text.
 #[derive(Clone, Copy)]
 enum Behind {
     Nothing,

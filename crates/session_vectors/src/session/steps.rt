@@ -51,7 +51,7 @@ fn stop(bench: &mut MemoryBench, word: &str) -> Result<bool> {
     Ok(true)
 }
 
-/// Does the step of a word and those behind it on a bench. Whether it finds what it says.
+/// Does the step of a word and the words after it on a bench. Answers whether it finds what it says.
 fn holds(rt: &HostRuntime, bench: &mut MemoryBench, word: &str, words: &[&str]) -> Result<bool> {
     match (word, words) {
         ("new", []) => carried(rt, bench, Goal::New),
@@ -63,7 +63,7 @@ fn holds(rt: &HostRuntime, bench: &mut MemoryBench, word: &str, words: &[&str]) 
     }
 }
 
-/// A session over three benches with the job of some words, behind the calls that fail.
+/// A session over three benches with a job. The first two words say which calls fail, and the others name the job.
 fn apart(rt: &HostRuntime, words: &[&str]) -> Result<bool> {
     let [survey, go, words @ ..] = words else {
         bail!("SURVEY GO and a job are wanted");
@@ -80,7 +80,7 @@ fn stops(rt: &HostRuntime, words: &[&str]) -> Result<bool> {
     Ok(true)
 }
 
-/// Does the step of a line, if it has one. Whether it finds what it says. Without a bench it is a step with benches of its own.
+/// Does the step of a line, if it has one. Answers whether it finds what it says. A step without a bench makes benches of its own.
 fn step(rt: &HostRuntime, bench: Option<&mut MemoryBench>, words: &[&str]) -> Result<bool> {
     let [word, words @ ..] = words else {
         return Ok(true);
@@ -117,14 +117,14 @@ fn go_through(rt: &HostRuntime, bench: &mut MemoryBench, text: &str) -> Result<(
     Ok(())
 }
 
-/// The bench of a job, of which the cell call of this number fails.
+/// The bench of a job. The cell call of the given number fails.
 fn failing(rt: &HostRuntime, fail: &str, words: &[&str]) -> Result<MemoryBench> {
     let fail = fail.parse::<u64>()?;
     let job = Job::read(rt, words)?;
     job.bench(rt, fail)
 }
 
-/// The bench of the words behind `job`.
+/// The bench that the words after `job` name.
 fn bench_of(rt: &HostRuntime, line: &str) -> Result<MemoryBench> {
     let words = line.split_whitespace().collect::<Vec<&str>>(rt.alloc())?;
     match words.as_slice() {

@@ -8,7 +8,7 @@ use bench_model::{MemoryBench, Pick, StopBench};
 use flash_session::Goal;
 use std::alloc::Global;
 
-/// The bench of a session that is stopped after so many calls, and whether the session came to its end before the stop.
+/// The bench of a session that is stopped after `calls` calls, and whether the session came to its end before the stop.
 fn stopped(alloc: Global, bench: MemoryBench, calls: u64, pick: Pick) -> (MemoryBench, bool) {
     let mut bench = StopBench::new(bench, calls);
     let first = carry(alloc, &mut bench, Goal::New);
@@ -17,7 +17,8 @@ fn stopped(alloc: Global, bench: MemoryBench, calls: u64, pick: Pick) -> (Memory
     (bench, matches!(first, Carried::Closed))
 }
 
-/// Carries on the job that a stop after so many calls left, and looks at the cells and the file. The session had `ended` or not.
+/// Carries on the job that a stop left, and checks the cells and the file. `ended` says whether the session came to its end before the
+/// stop.
 fn carry_on(
     alloc: Global,
     bench: &mut MemoryBench,
@@ -38,7 +39,7 @@ fn carry_on(
     bail!("{calls} calls: {wrong}");
 }
 
-/// Stops a session after so many calls, and carries the job on. Whether the session came to its end before the stop.
+/// Stops a session after `calls` calls, and carries the job on. Answers whether the session came to its end before the stop.
 fn ends(rt: &HostRuntime, job: &Job, goal: &[u8], calls: u64, pick: Pick) -> Result<bool> {
     let (mut bench, ended) = stopped(rt.alloc(), job.bench(rt, 0)?, calls, pick);
     carry_on(rt.alloc(), &mut bench, goal, calls, ended)?;

@@ -1,4 +1,4 @@
-//! Full plans, call by call against the ideal device.
+//! Full plans, compared call by call with the ideal device.
 ghost use Rattle.std.specs.Prelude.{◌≡◌, length};
 
 use crate::calls::trial::Trial;
@@ -14,7 +14,7 @@ use std::result;
 /// The address of the first cell.
 const BASE: u32 = 0x0800_0000;
 
-/// How many cells there are, and how many a sector has, and a page.
+/// The number of cells of the device, of a sector and of a page.
 const CELLS: u32 = 1024;
 
 const SECTOR: u32 = 256;
@@ -46,7 +46,7 @@ impl Plan {
         Ok(())
     }
 
-    /// What the next call is to do: to put these bytes into an area of the cells, or to empty it where there are none.
+    /// Notes what the next call is to do: to put these bytes into an area of the cells, or to empty it where there are none.
     fn expect(&mut self, bytes: &[u8], area: Area) {
         put_ideal(&mut self.ideal, self.trial.cells(), bytes, area);
         self.trial.watch(area);
@@ -101,7 +101,7 @@ fn phases(rt: &HostRuntime, plan: &mut Plan, chip: bool) -> Result<()> {
     Ok(())
 }
 
-/// Erases (1), programs (2) or verifies (3) so many areas of this length.
+/// Erases (1), programs (2) or verifies (3) `count` areas of this length.
 fn phase(rt: &HostRuntime, plan: &mut Plan, kind: u32, count: u8, len: u32) -> Result<()> {
     plan.begin()?;
     act(rt, plan, Call::Init { kind }, &[], Area::NONE)?;
@@ -114,7 +114,7 @@ fn phase(rt: &HostRuntime, plan: &mut Plan, kind: u32, count: u8, len: u32) -> R
     act(rt, plan, Call::UnInit { kind }, &[], Area::NONE)
 }
 
-/// Erases, programs or verifies an area. Each page is programmed with other bytes than each other one.
+/// Erases, programs or verifies an area. Each page is programmed with bytes of its own.
 fn work(rt: &HostRuntime, plan: &mut Plan, kind: u32, bytes: &[u8], area: Area) -> Result<()> {
     let at = BASE.wrapping_add(area.at);
     match kind {
@@ -150,7 +150,7 @@ fn put_act(rt: &HostRuntime, plan: &Plan, call: Call, end: CallEnd) -> Result<()
     Ok(())
 }
 
-/// What a call is named, and its number.
+/// The name of a call, and its number.
 fn name(call: Call) -> (&'static str, u32) {
     match call {
         Call::Init { kind } => ("Init", kind),
@@ -162,7 +162,7 @@ fn name(call: Call) -> (&'static str, u32) {
     }
 }
 
-/// What an end is named.
+/// The name of an end.
 fn end_name(end: CallEnd) -> &'static str {
     match end {
         CallEnd::Done => "done",

@@ -34,7 +34,7 @@ fn laid_out(words: &[&str], need: &str) -> Result<Layout> {
     })
 }
 
-/// What is needed, and what there is.
+/// The refusal that says what is needed, and what there is.
 fn no_room(need: &str, have: &str) -> Result<NoRoom> {
     let need = need.parse::<u64>()?;
     let have = have.parse::<u64>()?;
@@ -83,7 +83,7 @@ fn holds_cells(trial: &Trial, words: &[&str], alloc: Global) -> Result<bool> {
     Ok(trial.cells() == cells.as_slice())
 }
 
-/// Makes the calls to come in slices of so many steps.
+/// Makes the calls to come in slices of the number of steps that the word says.
 fn cut(trial: &mut Trial, words: &[&str]) -> Result<bool> {
     let [steps] = words else {
         bail!("a number of steps is wanted");
@@ -143,26 +143,26 @@ fn placed_on(rt: &HostRuntime, board: &Board, flm: &str, due: &[&str]) -> Result
     Ok(place(&algorithm, board) == due)
 }
 
-/// The same on the board of a file.
+/// Whether an algorithm is laid out as is due on the board of a file.
 fn placed(rt: &HostRuntime, board_name: &str, flm: &str, due: &[&str]) -> Result<bool> {
     let board = board(rt, board_name)?;
     placed_on(rt, &board, flm, due)
 }
 
-/// Carries out a plan with an algorithm on a board.
+/// Carries out a plan with an algorithm on this board.
 fn plan_on(rt: &HostRuntime, board: &Board, flm: &str, chip: bool) -> Result<()> {
     let algorithm = algorithm(rt, flm)?;
     carry_out(rt, board, algorithm, chip)
 }
 
-/// The same on the board of a file, by the chip or by sectors.
+/// Carries out a plan with an algorithm on the board of a file, by the chip or by sectors.
 fn plan(rt: &HostRuntime, board_name: &str, flm: &str, way: &str) -> Result<bool> {
     let board = board(rt, board_name)?;
     plan_on(rt, &board, flm, way == "chip")?;
     Ok(true)
 }
 
-/// Whether the step of a line holds, if it has one. Without a trial that is a layout or a plan.
+/// Whether the step of a line holds, if it has one. A step without a trial is a layout or a plan.
 fn step(rt: &HostRuntime, trial: Option<&mut Trial>, words: &[&str]) -> Result<bool> {
     match (words, trial) {
         ([], _) => Ok(true),
@@ -173,7 +173,7 @@ fn step(rt: &HostRuntime, trial: Option<&mut Trial>, words: &[&str]) -> Result<b
     }
 }
 
-/// The same of the words of a line.
+/// Whether the step holds that the words of a line say.
 fn step_holds(rt: &HostRuntime, trial: Option<&mut Trial>, line: &str) -> Result<bool> {
     step(rt, trial, &words(rt.alloc(), line)?)
 }
@@ -210,7 +210,7 @@ fn try_on(
     go_through(rt, &mut trial, text)
 }
 
-/// The same on the board of a file.
+/// Makes a trial on the board of a file, and goes through its lines.
 fn try_with(
     rt: &HostRuntime,
     board_name: &str,

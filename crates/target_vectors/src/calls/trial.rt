@@ -30,7 +30,7 @@ pub struct Trial {
     ghost agrees: { AgreesAt true calls (bench_of bench.inner) },
 }
 
-/// The machine of a board, which has so many cells.
+/// The machine of a board with this number of cells.
 fn machine_of(alloc: Global, board: &Board, cells: usize) -> Result<Machine>
     ensures base { IfOk result (λ m. m.ram_base ≡ (board_of board.now).ram_base) }
     ensures size { IfOk result (λ m. m.ram_size ≡ (board_of board.now).ram_size) }
@@ -57,7 +57,7 @@ fn calls_on(machine: Machine, algorithm: Algorithm, board: &Board) -> Result<Cal
     Ok(CallsIn::new(machine, layout, algorithm, board))
 }
 
-/// The calls of an algorithm on a machine of a board, which has so many cells.
+/// The calls of an algorithm on the machine of a board with this number of cells.
 fn calls_of(alloc: Global, board: &Board, algorithm: Algorithm, cells: usize) -> Result<CallsIn>
     ensures size { IfOk result (λ calls. calls.machine.ram_size ≡ (board_of board.now).ram_size) }
     ensures cells { IfOk result (λ calls. unit_cells calls.machine.unit ≡ cells) }
@@ -98,7 +98,7 @@ impl Trial {
         self.calls.reset(&mut self.arena, 1, &mut self.bench)
     }
 
-    /// Makes each call from now on in slices of so many steps, or in one piece at 0.
+    /// Makes each call from now on in slices of `steps` steps, or in one piece at 0.
     pub fn cut(&mut self, steps: u64) {
         self.steps = steps;
     }

@@ -1,10 +1,10 @@
-//! A bench on which is counted what operations are opened.
+//! A bench that counts the operations that are opened on it.
 
 ghost use Rattle.std.specs.Prelude.{◌≡◌};
 
 use bench_model::{Bench, DeviceFault, StoreFault};
 
-/// Cells: the place of the first, and how many.
+/// A range of cells: the place of the first one, and how many there are.
 #[derive(Clone, Copy)]
 pub struct Area {
     pub at: u32,
@@ -15,7 +15,7 @@ impl Area {
     /// No cells.
     pub const NONE: Area = Area { at: 0, len: 0 };
 
-    /// Whether it lies in another one.
+    /// Whether this range lies in another one.
     fn is_in(self, area: Area) -> bool {
         let end = u64::from(self.at) + u64::from(self.len);
         self.at >= area.at && end <= u64::from(area.at) + u64::from(area.len)
@@ -29,7 +29,7 @@ pub struct Watch<B> {
     area: Area,
     /// The operation that is open.
     pub open: Option<Area>,
-    /// How many were open at some moment since the area was given, and how many of these reach out of it.
+    /// How many operations were open at some moment since the area was given, and how many of these reach out of it.
     pub opened: u32,
     pub outside: u32,
 }
@@ -48,7 +48,7 @@ impl<B> Watch<B> {
         }
     }
 
-    /// Counts anew, what is open and what is opened from now on, in or out of an area.
+    /// Starts new counts: of what is open and what is opened from now on, in or out of an area.
     pub fn watch(&mut self, area: Area)
         ensures { self.new.inner ≡ self.old.inner }
     {

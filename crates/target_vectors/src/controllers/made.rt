@@ -35,7 +35,7 @@ fn layout<R: Registers>(alloc: Global, kind: ControllerKind) -> Result<FlashMap>
     })
 }
 
-/// A controller over two areas: as after a reset, and nothing runs.
+/// A controller over two areas, as after a reset. It runs no operation.
 fn over_areas<R: Registers>(alloc: Global, kind: ControllerKind) -> Result<Driver<R>> {
     let layout = layout::<R>(alloc, kind)?;
     let registers = R::fresh(kind);

@@ -72,7 +72,7 @@ fn holds<R: Registers>(trial: &mut Trial<R>, words: &[&str], alloc: Global) -> R
     }
 }
 
-/// The trial over a board and these cells, of which a cell call fails.
+/// The trial over a board and these cells. The cell call with the given number fails.
 fn trial_of<R: Registers>(
     rt: &HostRuntime,
     kind: ControllerKind,

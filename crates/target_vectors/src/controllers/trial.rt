@@ -19,8 +19,8 @@ pub struct Trial<R> {
 }
 
 impl<R: Registers> Trial<R> {
-    /// This controller, which runs nothing, over these cells. The cell call of this number fails, and an operation that is
-    /// broken off leaves 5A.
+    /// A trial of this controller, which runs no operation, over these cells. The cell call of number `fail` fails, and an operation that
+    /// is broken off leaves 5A.
     pub fn new(alloc: Global, driver: Driver<R>, cells: &[u8], fail: u32) -> Result<Trial<R>> {
         if driver.cells() as usize != cells.len() {
             bail!("another number of cells");
@@ -33,7 +33,7 @@ impl<R: Registers> Trial<R> {
         Ok(Trial { driver, bench })
     }
 
-    /// A store of so many bytes, or a bus fault where it isn't one.
+    /// Stores `width` bytes: 1, 2 or 4, at a multiple of the width. Anything else is a bus fault.
     pub fn store(&mut self, at: u32, width: u32, value: u32) -> result::Result<(), BusEnd> {
         match width {
             1 => self.driver.store(&mut self.bench, at, 1, value),
@@ -43,7 +43,7 @@ impl<R: Registers> Trial<R> {
         }
     }
 
-    /// A load of so many bytes, or a bus fault where it isn't one.
+    /// Loads `width` bytes: 1, 2 or 4, from a multiple of the width. Anything else is a bus fault.
     pub fn load(&mut self, at: u32, width: u32) -> result::Result<u32, BusEnd> {
         match width {
             1 => self.driver.load(&mut self.bench, at, 1),
@@ -53,7 +53,7 @@ impl<R: Registers> Trial<R> {
         }
     }
 
-    /// Some ticks, up to the first that fails.
+    /// Gives some ticks, up to the first that fails.
     pub fn ticks(&mut self, count: u32) -> result::Result<(), BusEnd> {
         for _tick in 0..count {
             self.driver.tick(&mut self.bench)?;

@@ -1,5 +1,5 @@
-//! Asks of forged algorithms whether they are A1 on a board that A1 serves. Each line has the board, the algorithm, the bytes of a page and
-//! the answer. The last line says whether the text of A1 makes `A1_CODE`.
+//! Asks for forged algorithms whether they are A1 on a board that A1 serves. Each line has the board, the algorithm, the bytes of a page
+//! and the answer. The last line says whether the text of A1 makes `A1_CODE`.
 
 use crate::files::board;
 use anyhow::Result;
@@ -29,7 +29,7 @@ fn put_line(rt: &HostRuntime, name: &str, kind: Kind, page: u32, serves: bool) -
     Ok(())
 }
 
-/// Puts the answer for an algorithm with pages of so many bytes.
+/// Puts the answer for an algorithm with pages of `page` bytes.
 fn put(rt: &HostRuntime, name: &str, board: &Board, kind: Kind, page: u32) -> Result<()> {
     let listing = listing(rt.alloc(), kind, board, page)?;
     put_line(rt, name, kind, page, answer(rt, board, &listing)?)
@@ -62,14 +62,14 @@ fn put_code(rt: &HostRuntime) -> Result<()> {
     put_code_on(rt, &board)
 }
 
-/// The same for a board.
+/// Puts whether the text of A1 for this board makes its code.
 fn put_code_on(rt: &HostRuntime, board: &Board) -> Result<()> {
     println!(rt; "code {}", a1_makes_code(rt, board)?)?;
     Ok(())
 }
 
-/// What is asked on the small board: A1 with the shortest and the longest page, with one that is shorter and one that is longer, and the
-/// algorithms that don't as they should.
+/// The questions on the small board: A1 with the shortest and the longest page, with a page that is too short and one that is too long, and
+/// the algorithms that don't do as they should.
 const SMALL: [(Kind, u32); 10] = [
     (Kind::A1, 64),
     (Kind::A1, 2776),

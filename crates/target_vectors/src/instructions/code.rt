@@ -1,4 +1,4 @@
-//! The decoder and the disassembler against binutils.
+//! Compares the decoder and the disassembler with binutils.
 
 use crate::instructions::row::half;
 use anyhow::{Context, Result};

@@ -1,4 +1,4 @@
-//! Code that a compiler made, run to results that are known otherwise.
+//! Code that a compiler made, run to results that are known from elsewhere.
 //!
 //! arm-none-eabi-gcc 12.2.1: -mcpu=cortex-m0 -mthumb -O2 -ffreestanding -nostdlib -Ttext=0x20000000 work.c -lgcc, of
 //!   uint32_t crc32(const uint8_t *bytes, uint32_t count)      at 0, bit by bit, with the polynomial 0xEDB88320

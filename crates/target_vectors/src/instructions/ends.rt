@@ -1,4 +1,4 @@
-//! Instructions that end otherwise than by going on.
+//! Instructions after which the core doesn't go on.
 
 use crate::instructions::row::half;
 use crate::instructions::steps::{HERE, core_at, stepped};

@@ -1,4 +1,4 @@
-//! The rows of a file, each compared as its kind is.
+//! The rows of a file, each compared in the way of its kind.
 
 use crate::instructions::row::words;
 use crate::instructions::{code, conditions, ends, statements, steps, sums};
@@ -12,9 +12,9 @@ pub enum Kind {
     Code,
     /// The assembler.
     Statement,
-    /// A step that goes.
+    /// A step after which the core goes on.
     Step,
-    /// A step that ends otherwise.
+    /// A step after which the core doesn't go on.
     End,
     /// A conditional branch.
     Condition,
@@ -35,7 +35,7 @@ fn holds(kind: Kind, line: &str, alloc: Global) -> Result<bool> {
     }
 }
 
-/// Compares each row, and gives their number. A line that `#` begins is none.
+/// Compares each row, and answers how many there are. A line that begins with `#` is no row.
 pub fn check(kind: Kind, text: &str, alloc: Global) -> Result<usize> {
     let mut rows = 0usize;
     for line in text.lines() {

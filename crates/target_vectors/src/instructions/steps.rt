@@ -1,4 +1,4 @@
-//! One step against what QEMU leaves, and against what was worked out by hand.
+//! Compares one step with what QEMU leaves, and with what was worked out by hand.
 
 use crate::instructions::row::half;
 use crate::lines::numbers;
@@ -31,13 +31,13 @@ pub fn core_at(pc: u32) -> Core {
     core
 }
 
-/// Puts bytes to a place behind all that was put before, with nothing between.
+/// Puts bytes at a place after all bytes that were put before, with zeros between.
 pub fn put(bytes: &mut Vec<u8>, at: usize, part: &[u8]) -> Result<(), AllocError> {
     bytes.resize(at, 0)?;
     bytes.extend_from_slice(part)
 }
 
-/// Puts two halfwords of code to 0x40, a literal after them, and the data to 0x100, in 1024 bytes.
+/// Puts two halfwords of code to 0x40, a literal after them, and the data to 0x100, in 1,024 bytes.
 fn fill(bytes: &mut Vec<u8>, first: u16, second: u16) -> Result<(), AllocError> {
     put(bytes, 0x40, &first.to_le_bytes())?;
     put(bytes, 0x42, &second.to_le_bytes())?;
@@ -46,7 +46,7 @@ fn fill(bytes: &mut Vec<u8>, first: u16, second: u16) -> Result<(), AllocError> 
     put(bytes, 0x400, &[])
 }
 
-/// 1024 bytes of memory: two halfwords of code at 0x20000040, a literal after them, and the data from 0x20000100 on.
+/// 1,024 bytes of memory: two halfwords of code at 0x20000040, a literal after them, and the data from 0x20000100 on.
 fn bus_with(alloc: Global, first: u16, second: u16) -> Result<MemoryBus, AllocError> {
     let mut bytes = Vec::new(alloc);
     fill(&mut bytes, first, second)?;
@@ -98,14 +98,14 @@ fn second_of(word: &str) -> Result<u16> {
     if word == "----" { Ok(0) } else { half(word) }
 }
 
-/// Whether a step goes, and leaves this core and these bytes of data.
+/// Whether the core goes on after a step, which leaves this core and these bytes of data.
 fn leaves(bus: &mut MemoryBus, core: &mut Core, wanted: &Core, data: &[u8]) -> bool {
     step(core, bus) == StepEnd::Went
         && *core == *wanted
         && bus.bytes().get(0x100..0x110) == Some(data)
 }
 
-/// Whether a step of the code of two words goes, and leaves this core and this data.
+/// Whether the core goes on after a step of the code of two words, which leaves this core and this data.
 fn goes_to(code: &[&str], core: Core, wanted: &Core, data: &[u8], alloc: Global) -> Result<bool> {
     let [first, second] = code else {
         bail!("code is FIRST SECOND");

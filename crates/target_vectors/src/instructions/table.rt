@@ -1,4 +1,4 @@
-//! The decoder against the values and masks of the table.
+//! Compares the decoder with the values and masks of the table.
 
 use crate::instructions::row::{half, words};
 use anyhow::{Result, bail};
@@ -23,7 +23,7 @@ fn row_of(words: &[&str]) -> Result<Row> {
     })
 }
 
-/// How many halfwords fit a row: each is an instruction.
+/// How many halfwords fit a row. Each of them is an instruction.
 fn fitting(row: &Row) -> usize {
     (0..=u16::MAX)
         .filter(|half| *half & row.mask == row.value)
@@ -31,7 +31,7 @@ fn fitting(row: &Row) -> usize {
         .count()
 }
 
-/// A halfword fits one row where it is an instruction, and else none.
+/// Checks that a halfword fits one row where it is an instruction, and otherwise none.
 fn check_half(half: u16, rows: &[Row]) -> Result<()> {
     let fit = rows
         .iter()
@@ -65,7 +65,7 @@ fn rows_of(text: &str, alloc: Global) -> Result<Vec<Row>> {
     Ok(rows)
 }
 
-/// Compares each halfword and each row, and gives the number of rows.
+/// Compares each halfword and each row, and answers the number of rows.
 fn check_rows(rows: &[Row]) -> Result<usize> {
     for row in rows {
         let found = fitting(row);
@@ -79,7 +79,7 @@ fn check_rows(rows: &[Row]) -> Result<usize> {
     Ok(rows.len())
 }
 
-/// Compares the rows of a text, and gives their number.
+/// Compares the rows of a text, and answers their number.
 pub fn check(text: &str, alloc: Global) -> Result<usize> {
     let rows = rows_of(text, alloc)?;
     check_rows(&rows)

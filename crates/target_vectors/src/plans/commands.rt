@@ -1,11 +1,12 @@
 //! The lines of a file of plans, one command each:
 //!
-//! - `device SIZE PAGE ITEM..`, with each item as SIZE@OFFSET: a blank device
-//! - `weights SECTOR PAGE CHIP`; `entry yes` or `entry no`: whether the algorithm can erase the chip
-//! - `old AT LEN VALUE`: so many bytes of old and wanted contents from a place on, where the value `count` is the place modulo 256
-//! - `want AT LEN VALUE`: the same of the wanted contents alone
-//! - `plan NAME`: prints the plan
-//! - `lists VALUES`: tries every list of up to four actions between contents of so many values
+//! - `device SIZE PAGE ITEM..`: a blank device. Each item is SIZE@OFFSET.
+//! - `weights SECTOR PAGE CHIP`: what it costs to erase a sector, to program a page and to erase the chip. `entry yes` or `entry no`:
+//!   whether the algorithm can erase the chip.
+//! - `old AT LEN VALUE`: sets LEN bytes of the old and of the wanted contents from a place on. The value `count` is the place modulo 256.
+//! - `want AT LEN VALUE`: sets LEN bytes of the wanted contents alone, with the values of `old`.
+//! - `plan NAME`: prints the plan.
+//! - `lists VALUES`: tries every list of up to four actions between contents of VALUES values.
 
 use crate::plans::device::{Item, geometry_of};
 use crate::plans::lists::try_lists;
@@ -67,7 +68,7 @@ fn fill_both(text: &str, trial: &mut Trial) -> Result<()> {
     fill(&mut trial.want, text)
 }
 
-/// Puts a blank device in place of a trial's; all else stays.
+/// Replaces the device of a trial by a blank one, and keeps all else.
 fn change_device(alloc: Global, flm: &[u8], text: &str, trial: &mut Trial) -> Result<()> {
     let has_chip = trial.has_chip;
     *trial = device(alloc, flm, trial.weights, text)?;
@@ -86,7 +87,7 @@ fn item(word: &str) -> Result<Item> {
     })
 }
 
-/// The sector items behind the size and the page of a device.
+/// The sector items that come after the size and the page of a device.
 fn items_of(alloc: Global, text: &str) -> Result<Vec<Item>> {
     let mut items = Vec::new(alloc);
     for word in text.split_whitespace().skip(2) {
@@ -135,7 +136,7 @@ fn weights(text: &str) -> Result<Weights> {
     })
 }
 
-/// Sets some bytes of contents: from a place on, so many, to a value.
+/// Sets bytes of contents. The words say from which place on, how many, and to which value.
 fn fill(cells: &mut [u8], text: &str) -> Result<()> {
     let mut words = text.split_whitespace();
     let at = number(words.next())? as usize;

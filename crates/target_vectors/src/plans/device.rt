@@ -1,17 +1,17 @@
-//! The geometry of a device of any shape, by way of an FLM file.
+//! The geometry of a device of any shape, which is read from an FLM file that is made for it.
 
 use anyhow::Result;
 use flm_descriptor::read_flm;
 use page_geometry::Geometry;
 use std::alloc::Global;
 
-/// Where szDev stands in the file.
+/// The place of szDev in the file.
 const SIZE_AT: usize = 212;
 
-/// Where szPage stands in the file.
+/// The place of szPage in the file.
 const PAGE_AT: usize = 216;
 
-/// Where the first sector item stands in the file; there is room for 512.
+/// The place of the first sector item in the file. There is room for 512 items.
 const ITEMS_AT: usize = 236;
 
 /// A sector item: sectors of `size` bytes from `offset` on.

@@ -1,4 +1,4 @@
-//! Every list of up to four actions on a small device, tried one by one against the plans.
+//! Tries every list of up to four actions on a small device, and compares its cost with that of the plan.
 
 use crate::plans::trial::{EMPTY, Trial, plan_cost};
 use anyhow::{Result, bail};
@@ -7,7 +7,7 @@ use std::alloc::Global;
 /// The most bytes of a small device, and the most actions in a list.
 const MOST: usize = 4;
 
-/// The contents of a small device; what lies past its end is empty.
+/// The contents of a small device. Bytes past its end are empty.
 type Cells = [u8; MOST];
 
 /// An action on a range of a small device, and its cost.
@@ -47,7 +47,7 @@ impl Step {
     }
 }
 
-/// How many numbers of so many digits there are in a base.
+/// How many numbers with `digits` digits there are in a base.
 fn power(base: usize, digits: usize) -> usize {
     let mut all: usize = 1;
     for _digit in 0..digits {
@@ -56,7 +56,7 @@ fn power(base: usize, digits: usize) -> usize {
     all
 }
 
-/// Contents as numbers: their digits in the base of the values, from the first byte on, where digit 0 is the empty value.
+/// Numbers for contents: the bytes are digits in the base of the values, from the first byte on. Digit 0 is the empty value.
 #[derive(Clone, Copy)]
 struct Numbering {
     values: usize,
@@ -64,12 +64,12 @@ struct Numbering {
 }
 
 impl Numbering {
-    /// How many contents there are.
+    /// How many different contents there are.
     fn count(self) -> usize {
         power(self.values, self.size)
     }
 
-    /// The contents of a number.
+    /// The contents that have a number.
     fn cells(self, number: usize) -> Cells {
         let mut cells = [EMPTY; MOST];
         let mut rest = number;
@@ -119,7 +119,7 @@ fn push_erasures(steps: &mut Vec<Step>, trial: &Trial) -> Result<()> {
     Ok(())
 }
 
-/// Appends the actions that program a page from a place on, with all bytes of so many values.
+/// Appends the actions that program a page from a place on, with all bytes of this numbering.
 fn push_page(steps: &mut Vec<Step>, place: usize, pages: Numbering, cost: u32) -> Result<()> {
     for number in 0..pages.count() {
         steps.push(Step {
@@ -143,7 +143,7 @@ fn push_pages(steps: &mut Vec<Step>, trial: &Trial, values: usize) -> Result<()>
     Ok(())
 }
 
-/// The actions that there are: each sector's erasure, the chip's, each page with all bytes of so many values.
+/// All actions: the erase of each sector and of the chip, and the programming of each page with all bytes of `values` values.
 fn steps_of(alloc: Global, trial: &Trial, values: usize) -> Result<Vec<Step>> {
     let mut steps = Vec::new(alloc);
     push_erasures(&mut steps, trial)?;
@@ -151,7 +151,8 @@ fn steps_of(alloc: Global, trial: &Trial, values: usize) -> Result<Vec<Step>> {
     Ok(steps)
 }
 
-/// The number of the contents after list `number` of so many actions, and what the list costs; none where an action can't be done.
+/// The number of the contents after list `number` of `len` actions, and what the list costs. It is none where one of the actions can't be
+/// done.
 fn after(
     start: &Cells,
     number: usize,
@@ -173,7 +174,7 @@ fn after(
     Some((numbering.number(&cells), cost))
 }
 
-/// Notes the least cost by which lists of so many actions lead to each contents, if that is below what is there.
+/// Notes the least cost at which lists of `len` actions lead to each contents, where it is below the cost that is noted.
 fn try_each(
     start: &Cells,
     len: usize,
@@ -200,14 +201,14 @@ fn set(cells: &mut [u8], contents: &Cells) {
     }
 }
 
-/// How many contents the lists from one lead to, and to how many of them at the plan's cost.
+/// How many contents the lists lead to, and to how many of them at the cost of the plan.
 #[derive(Clone, Copy)]
 struct Tally {
     reached: u32,
     equal: u32,
 }
 
-/// Holds what the lists cost from the trial's old contents against the plans.
+/// Compares what the lists cost from the trial's old contents with the costs of the plans.
 fn compare(
     rt: &HostRuntime,
     trial: &mut Trial,
@@ -277,7 +278,8 @@ fn try_all(
     Ok(all)
 }
 
-/// Tries every list of up to four actions from each contents of so many values, and holds the least cost that leads to each contents against the plan's.
+/// Tries every list of up to four actions from each contents of `values` values. Compares the least cost that leads to each contents with
+/// that of the plan.
 pub fn try_lists(rt: &HostRuntime, trial: &mut Trial, values: usize) -> Result<()> {
     let steps = steps_of(rt.alloc(), trial, values)?;
     let size = trial.old.len();

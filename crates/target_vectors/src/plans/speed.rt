@@ -13,7 +13,7 @@ use std::alloc::Global;
 /// How many bytes a plan is fed at a time.
 const WINDOW: usize = 4096;
 
-/// Makes the plan for a device of so many bytes, with sectors of 256 bytes and pages of 16, where every byte changes, and prints its cost.
+/// Makes the plan for a device of `bytes` bytes, with sectors of 256 bytes and pages of 16, in which every byte changes. Prints its cost.
 pub fn plan_all(rt: &HostRuntime, flm: &[u8], bytes: u32) -> Result<()> {
     let item = Item {
         size: 256,
@@ -44,7 +44,7 @@ fn cost_of(alloc: Global, geometry: &Geometry) -> Result<u64> {
     Ok(plan.cost())
 }
 
-/// Feeds a plan with as many bytes as the device has, a window at a time, each of which changes.
+/// Feeds a plan with all bytes of the device, a window at a time. Every byte changes.
 fn feed_all(geometry: &Geometry, plan: &mut Plan)
     requires making { length plan.old.marks ≡ length geometry.now.pages }
     requires covers { Covers geometry.now plan.old }

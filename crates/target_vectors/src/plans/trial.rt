@@ -1,4 +1,4 @@
-//! One device with its old and its wanted contents, and the plan from the one to the other.
+//! One device with its old and its wanted contents, and the plan from the old to the wanted ones.
 ghost use Rattle.std.specs.Prelude.{◌≡◌, ◌<◌, length};
 ghost use Rattle.erase_planner.specs.Marks.{Covers};
 
@@ -48,7 +48,7 @@ fn plan_whole(rt: &HostRuntime, trial: &Trial) -> Result<Plan> {
     Ok(plan)
 }
 
-/// The same, from contents that come in pieces of `piece` bytes.
+/// The plan between two contents that come in pieces of `piece` bytes.
 fn plan_in_pieces(rt: &HostRuntime, trial: &Trial, piece: usize) -> Result<Plan>
     requires { 0 < piece }
 {
@@ -108,7 +108,7 @@ fn is_planned(rt: &HostRuntime, trial: &Trial, plan: &Plan, piece: usize) -> Res
     Ok(is_same(&trial.geometry, plan, &other))
 }
 
-/// Fails where a plan is another one when the contents come in pieces of 100 bytes and of 1.
+/// Fails where the plan differs once the contents come in pieces of 100 bytes or of 1.
 fn expect_same(rt: &HostRuntime, name: &str, trial: &Trial, plan: &Plan) -> Result<()> {
     if !is_planned(rt, trial, plan, 100)? || !is_planned(rt, trial, plan, 1)? {
         bail!("{name}: another plan from pieces");
@@ -164,7 +164,7 @@ fn put_plan(rt: &HostRuntime, name: &str, geometry: &Geometry, plan: &Plan) -> R
     put_cost(rt, plan)
 }
 
-/// Prints the plan of a trial, which has to be the same where the contents come in pieces of 100 bytes and of 1.
+/// Prints the plan of a trial. It must be the same where the contents come in pieces of 100 bytes and of 1.
 pub fn show_plan(rt: &HostRuntime, name: &str, trial: &Trial) -> Result<()> {
     let plan = plan_whole(rt, trial)?;
     put_plan(rt, name, &trial.geometry, &plan)?;

@@ -18,7 +18,7 @@ controller.base = 0x40022000";
 /// The cells of the flash.
 pub const CELLS: usize = 1024;
 
-/// Where the code stands, from the beginning of the RAM on. The return point is the beginning.
+/// The place of the code in the RAM. The return point is the beginning of the RAM.
 const CODE: u32 = 32;
 
 /// The most steps.
@@ -33,7 +33,7 @@ pub struct Bed<B: Bench + Drop> {
     ghost agrees: { UnitAgrees B.tells (stands target).unit (B.state bench) },
 }
 
-/// Resets a target over a bench of as many cells as its flash has, and puts the code into its RAM.
+/// Resets a target over a bench with as many cells as the target's flash has, and puts the code into its RAM.
 fn set_up<B: Bench>(target: &mut Target, bench: &mut B, code: &[u8]) -> Result<()>
     ensures { OnOk result (UnitAgrees B.tells (stands target.new).unit (B.state bench.new)) }
 {
@@ -72,7 +72,7 @@ impl<B: Bench + Drop> Bed<B> {
         Ok(Bed { target, bench })
     }
 
-    /// Runs the code with the number of rounds in R0: how the run ended, and how many steps were made.
+    /// Runs the code with the number of rounds in R0. Answers how the run ended, and how many steps were made.
     pub fn run(&mut self, rounds: u32) -> (SliceEnd, u64) {
         let base = self.target.machine.ram_base;
         let mut regs = [0; 16];

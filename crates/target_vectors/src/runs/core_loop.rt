@@ -20,7 +20,7 @@ const CODE: [u8; 44] = [
 
 const BASE: u32 = 0x2000_0000;
 
-/// The last end, and the number of steps that went.
+/// How the last step ended, and how many steps were made.
 fn run(core: &mut Core, bus: &mut MemoryBus) -> (StepEnd, u64) {
     for made in 0..u64::MAX {
         let end = step(core, bus);
@@ -31,7 +31,7 @@ fn run(core: &mut Core, bus: &mut MemoryBus) -> (StepEnd, u64) {
     (StepEnd::Went, u64::MAX)
 }
 
-/// The last end and the number of steps of a core that runs the loop.
+/// How the last step of a core that runs the loop ended, and how many steps were made.
 fn run_code(alloc: Global, core: &mut Core) -> Result<(StepEnd, u64)> {
     let mut bytes = Vec::from_slice(alloc, &CODE)?;
     bytes.resize(1024, 0)?;
@@ -39,7 +39,7 @@ fn run_code(alloc: Global, core: &mut Core) -> Result<(StepEnd, u64)> {
     Ok(run(core, &mut bus))
 }
 
-/// Runs the loop for so many rounds. It prints how the last step ended, how many steps were made, and two registers.
+/// Runs the loop for `rounds` rounds. It prints how the last step ended, how many steps were made, and two registers.
 pub fn run_loop(rt: &HostRuntime, rounds: u32) -> Result<()> {
     let mut core = Core {
         regs: [0; 16],

@@ -34,7 +34,7 @@ impl Left {
         }
     }
 
-    /// Whether both left the same.
+    /// Whether two runs left the same.
     pub fn same_as(&self, other: &Left) -> bool {
         self.end == other.end
             && self.regs == other.regs

@@ -16,7 +16,7 @@ const UNITS: u64 = 2100;
 /// The rounds that there is room for.
 const RECORDED: u64 = 2000;
 
-/// Where a target has its cells.
+/// The place of a target's cells.
 #[derive(Clone, Copy)]
 enum Cells<'a> {
     /// In memory. They are blank.
@@ -25,7 +25,7 @@ enum Cells<'a> {
     File(&'a str),
 }
 
-/// Runs code for so many rounds over a bench: how the run ended, and how many steps were made.
+/// Runs code for `rounds` rounds over a bench. Answers how the run ended, and how many steps were made.
 fn run_over<B: Bench + Drop>(
     alloc: Global,
     bench: B,
@@ -36,7 +36,7 @@ fn run_over<B: Bench + Drop>(
     Ok(bed.run(rounds))
 }
 
-/// The same over blank cells in memory.
+/// Runs code for `rounds` rounds over blank cells in memory.
 fn run_in_memory(alloc: Global, code: &[u8], rounds: u32) -> Result<(SliceEnd, u64)> {
     let room = u64::from(rounds).min(RECORDED) * UNITS;
     let blank = [0xFF; CELLS];
@@ -44,7 +44,7 @@ fn run_in_memory(alloc: Global, code: &[u8], rounds: u32) -> Result<(SliceEnd, u
     run_over(alloc, bench, code, rounds)
 }
 
-/// The same over the cells of a file.
+/// Runs code for `rounds` rounds over the cells of a file.
 fn run_over_file(
     rt: &HostRuntime,
     cells: &str,
@@ -62,7 +62,7 @@ fn put_run(rt: &HostRuntime, name: &str, end: SliceEnd, steps: u64) -> Result<()
     Ok(())
 }
 
-/// Runs the code of a file for so many rounds over the bench that has the cells, and prints what comes of it.
+/// Runs the code of a file for `rounds` rounds over the bench that has the cells. Prints how the run ended, and how many steps were made.
 fn run_file(rt: &HostRuntime, cells: Cells<'_>, name: &str, rounds: u32) -> Result<()> {
     let code = fs::read(rt, name)?;
     let (end, steps) = match cells {
@@ -72,7 +72,7 @@ fn run_file(rt: &HostRuntime, cells: Cells<'_>, name: &str, rounds: u32) -> Resu
     put_run(rt, name, end, steps)
 }
 
-/// Does the same with each of some files.
+/// Runs the code of each of some files, and prints how each run ended.
 fn run_files(rt: &HostRuntime, cells: Cells<'_>, names: &[&str], rounds: u32) -> Result<()> {
     for name in names {
         run_file(rt, cells, name, rounds)?;
@@ -80,7 +80,7 @@ fn run_files(rt: &HostRuntime, cells: Cells<'_>, names: &[&str], rounds: u32) ->
     Ok(())
 }
 
-/// Does what the words say: the number of rounds, and the files of the code. With no file the core's loop is run.
+/// Runs the files that the words name after the number of rounds. With no file it runs the core's loop.
 pub fn measure(rt: &HostRuntime, words: &[&str]) -> Result<()> {
     match words {
         [] => bail!("the number of rounds is missing"),
@@ -89,7 +89,7 @@ pub fn measure(rt: &HostRuntime, words: &[&str]) -> Result<()> {
     }
 }
 
-/// Does the same over a file of 1,024 cells, the first word.
+/// Runs files of code over the file of 1,024 cells that the first word names.
 pub fn measure_files(rt: &HostRuntime, words: &[&str]) -> Result<()> {
     let [cells, rounds, names @ ..] = words else {
         bail!("the cells or the number of rounds is missing");

@@ -1,4 +1,4 @@
-//! Two machines whose RAM stands in one arena, run by turns.
+//! Two machines with their RAM in one arena, which run by turns.
 ghost use Rattle.std.specs.Prelude.{◌≡◌, ◌≤◌, true, length};
 ghost use Rattle.bench_model.specs.Shown.{bench_of};
 ghost use Rattle.target_core.specs.Windows.{IsRam, OnlyIn};
@@ -13,7 +13,7 @@ use ram_arena::Arena;
 use std::alloc::Global;
 use target_core::{Frame, Machine, RunEnd, SliceEnd};
 
-/// A machine in the middle of a run, and its bench, whose open operation is the controller's.
+/// A machine in the middle of a run, and its bench. The operation that is open on the bench is the controller's.
 #[derive(Drop)]
 struct Runner {
     machine: Machine,
@@ -61,7 +61,7 @@ impl Runner {
         self.fuel = fuel;
     }
 
-    /// Goes on by at most so many steps.
+    /// Goes on by at most `steps` steps.
     fn go_on(&mut self, arena: &mut Arena, window: usize, steps: u64) -> SliceEnd
         requires place { window ≤ 1 }
         requires window { IsRam arena.old window 256 }
@@ -74,7 +74,7 @@ impl Runner {
             .run_slice(arena, window, &mut self.bench, &mut self.fuel, steps)
     }
 
-    /// A turn of at most so many steps, and what it leaves if that was the last.
+    /// Takes a turn of at most `steps` steps. Answers what it leaves, if that was the last turn.
     fn turn(&mut self, arena: &mut Arena, window: usize, steps: u64) -> Option<Left>
         requires place { window ≤ 1 }
         requires window { IsRam arena.old window 256 }
@@ -87,7 +87,7 @@ impl Runner {
         }
     }
 
-    /// What is left after the run ended so.
+    /// What the machine leaves, after its run ended in this way.
     fn leaves(&self, arena: &Arena, window: usize, end: RunEnd) -> Left
         requires { IsRam arena.now window 256 }
     {
@@ -133,17 +133,17 @@ impl Pair {
         self.other.start(&mut self.arena, 1, frame, fuel);
     }
 
-    /// A turn of the first, and what it leaves if that was the last.
+    /// Takes a turn of the first machine. Answers what it leaves, if that was the last turn.
     fn turn_one(&mut self, steps: u64) -> Option<Left> {
         self.one.turn(&mut self.arena, 0, steps)
     }
 
-    /// A turn of the second.
+    /// Takes a turn of the second machine. Answers what it leaves, if that was the last turn.
     fn turn_other(&mut self, steps: u64) -> Option<Left> {
         self.other.turn(&mut self.arena, 1, steps)
     }
 
-    /// Both by turns of so many steps, up to the end of each: what they leave.
+    /// Runs both machines by turns of `steps` steps, up to the end of each. Answers what they leave.
     pub fn by_turns(&mut self, turns: u64, steps: u64) -> Result<(Left, Left)> {
         let mut one = None;
         let mut other = None;

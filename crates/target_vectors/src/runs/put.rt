@@ -3,13 +3,13 @@
 use anyhow::Result;
 use target_core::{FaultKind, RunEnd};
 
-/// A text and a number.
+/// Prints a text and a number.
 fn put_number(rt: &HostRuntime, text: &str, number: u32) -> Result<()> {
     print!(rt; "{text}{number:08X}")?;
     Ok(())
 }
 
-/// How a run ended.
+/// Prints how a run ended.
 pub fn put_end(rt: &HostRuntime, end: RunEnd) -> Result<()> {
     match end {
         RunEnd::Returned { r0 } => put_number(rt, "returned ", r0),
@@ -23,7 +23,7 @@ pub fn put_end(rt: &HostRuntime, end: RunEnd) -> Result<()> {
     }
 }
 
-/// The fault that ended a run.
+/// Prints the fault that ended a run.
 fn put_fault(rt: &HostRuntime, kind: FaultKind, pc: u32) -> Result<()> {
     match kind {
         FaultKind::Undefined => put_number(rt, "undefined at ", pc),
@@ -33,7 +33,7 @@ fn put_fault(rt: &HostRuntime, kind: FaultKind, pc: u32) -> Result<()> {
     }
 }
 
-/// The fault of an access, and its address.
+/// Prints the fault of an access, and its address.
 fn put_access(rt: &HostRuntime, text: &str, pc: u32, at: u32) -> Result<()> {
     put_number(rt, text, pc)?;
     put_number(rt, " address ", at)

@@ -95,7 +95,7 @@ fn two_machines(alloc: Global) -> Result<Pair> {
     Pair::new(alloc, &board)
 }
 
-/// What two machines leave that run by turns.
+/// What two machines leave after they ran by turns.
 fn turned(alloc: Global, one: &Code, other: &Code, fuel: u64, steps: u64) -> Result<(Left, Left)> {
     ensure!(
         one.bytes.len() <= 256 && other.bytes.len() <= 256,
@@ -199,7 +199,7 @@ fn go_through_one(rt: &HostRuntime, text: &str) -> Result<()> {
     go_on(rt, code, fail, text)
 }
 
-/// Goes through the lines. A case has a target or more, and begins with one.
+/// Goes through the lines. A case has one target or more, and begins with a target.
 pub fn go_through(rt: &HostRuntime, text: &str) -> Result<()> {
     let mut targets = text.split("\nnew ");
     if let Some(name) = targets.next() {

@@ -18,13 +18,13 @@ pub const BOARD: &str = "ram = { base = 0x20000000, size = 256 }
 region = [{ base = 0x08000000, sectors = [[2, 4]] }]
 controller.base = 0x40022000";
 
-/// The same with the controller FPEC, and with a quiet range.
+/// A board like `BOARD`, but with the controller FPEC and with a quiet range.
 pub const FPEC_BOARD: &str = "ram = { base = 0x20000000, size = 256 }
 region = [{ base = 0x08000000, sectors = [[2, 4]] }]
 controller = { base = 0x40022000, kind = \"fpec\" }
 quiet = [{ base = 0x40021000, size = 1024 }]";
 
-/// Where runs return to.
+/// The address to which runs return.
 const BACK: u32 = 0x2000_0040;
 
 /// A target and its bench, whose open operation is the controller's.
@@ -38,13 +38,14 @@ pub struct Trial {
 }
 
 impl Trial {
-    /// A target of the board of a text with this code at the beginning of its RAM, over blank cells. The cell call of this number fails.
+    /// A target of the board that a text says, with this code at the beginning of its RAM, over blank cells. The cell call of number `fail`
+    /// fails.
     pub fn of(alloc: Global, board: &str, code: &[u8], fail: u64) -> Result<Trial> {
         let board = read_board(alloc, board.as_bytes())?;
         Trial::new(alloc, &board, code, fail)
     }
 
-    /// The same of a board.
+    /// A target of a board, with this code at the beginning of its RAM, over blank cells. The cell call of number `fail` fails.
     fn new(alloc: Global, board: &Board, code: &[u8], fail: u64) -> Result<Trial> {
         let mut target = Target::new(alloc, board)?;
         if target.machine.unit.cells() as usize != CELLS
@@ -62,7 +63,7 @@ impl Trial {
         })
     }
 
-    /// A word stored to a register of the controller, or a bus fault where the address isn't a multiple of 4.
+    /// Stores a word to a register of the controller. It is a bus fault where the address isn't a multiple of 4.
     pub fn word(&mut self, at: u32, value: u32) -> result::Result<(), BusEnd> {
         if at % 4 != 0 {
             return Err(BusEnd::Fault);
@@ -80,7 +81,7 @@ impl Trial {
         end
     }
 
-    /// Runs the code in slices of so many steps, and says what is left of the fuel.
+    /// Runs the code in slices of `steps` steps. Answers how the run ended, and what is left of the fuel.
     pub fn slices(&mut self, frame: &Frame, fuel: u64, steps: u64) -> (RunEnd, u64) {
         self.target.start(frame);
         let mut left = fuel;
@@ -98,7 +99,7 @@ impl Trial {
         self.target.machine.core.regs == self.last
     }
 
-    /// What a run left that ended so.
+    /// What a run with this end left.
     fn left(&self, end: RunEnd) -> Result<Left> {
         let machine = &self.target.machine;
         ensure!(machine.ram_size as usize == SIZE, "another size");

@@ -1,4 +1,4 @@
-//! Whole texts: their code, their labels, and why they are refused. More of them are compared by `target_vectors`.
+//! Whole texts: their code, their labels, and why they are refused. `target_vectors` compares more of them.
 
 mod back;
 mod texts;
@@ -17,12 +17,12 @@ fn a_flash_algorithm(rt: HostRuntime) -> Result<(), Fail> {
     Ok(())
 }
 
-/// The place of a label, if there is one of this name.
+/// Asserts the place of a label, or that no label has this name.
 fn assert_place(rt: &impl Abort, labels: &Labels, name: &[u8], place: Option<u32>) {
     expect(rt, &labels.get(name), &place);
 }
 
-/// The code and the labels of the flash algorithm.
+/// Asserts the code and the labels of the flash algorithm.
 fn assert_algorithm(rt: &impl Abort, code: &Code) {
     expect(rt, &code.bytes.len(), &144);
     expect(rt, code.bytes.bytes(), algorithm_code());
@@ -41,7 +41,7 @@ fn assert_algorithm(rt: &impl Abort, code: &Code) {
     }
 }
 
-/// The code of a text.
+/// Asserts that a text has this code.
 fn assert_code(rt: &impl Abort, alloc: Global, text: &[u8], due: &[u8]) -> Result<(), Fail> {
     let code = assemble(alloc, text)?;
     expect(rt, code.bytes.bytes(), due);
@@ -64,7 +64,7 @@ fn short_texts(rt: HostRuntime) -> Result<(), Fail> {
     Ok(())
 }
 
-/// A label stands in front of what its own statement pads.
+/// A label is the place before the bytes that its own statement pads.
 #[test]
 fn labels_have_their_places(rt: HostRuntime) -> Result<(), Fail> {
     let code = assemble(rt.alloc(), b"a: DSB\nb: NOP\nc: .align\nd: .word 1\ne:")?;
@@ -73,21 +73,21 @@ fn labels_have_their_places(rt: HostRuntime) -> Result<(), Fail> {
     Ok(())
 }
 
-/// The places of five labels.
+/// Asserts the places of five labels.
 fn assert_places(rt: &impl Abort, labels: &Labels) {
     for (name, place) in [(b"a", 0), (b"b", 4), (b"c", 6), (b"d", 8), (b"e", 12)] {
         assert_place(rt, labels, name, Some(place));
     }
 }
 
-/// The labels as a vector, and of one.
+/// Asserts the labels of a text as a vector, and the vector of one label.
 fn assert_vector(rt: &impl Abort, labels: Labels) {
     let labels = labels.into_vec();
     assert_third(rt, &labels);
     assert_place(rt, &Labels::from_vec(labels), b"e", Some(12));
 }
 
-/// Five labels, whose third is c.
+/// Asserts that there are five labels and that the third is c.
 fn assert_third(rt: &impl Abort, labels: &[Label]) {
     expect(rt, &labels.len(), &5);
     if let Some(third) = labels.get(2) {
@@ -103,14 +103,14 @@ fn told(alloc: Global, text: &[u8]) -> Result<String, Fail> {
     }
 }
 
-/// A text is refused for this.
+/// Asserts that a text is refused with this fault.
 fn assert_fault(rt: &impl Abort, alloc: Global, text: &[u8], due: &str) -> Result<(), Fail> {
     let told = told(alloc, text)?;
     assert_eq!(rt; told.as_str(), due);
     Ok(())
 }
 
-/// Each check goes over the whole text before the next.
+/// Each check goes over the whole text before the next check.
 #[test]
 fn refusals_come_in_their_order(rt: HostRuntime) -> Result<(), Fail> {
     let cases: [(&[u8], &str); 4] = [

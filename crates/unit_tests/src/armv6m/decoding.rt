@@ -1,4 +1,4 @@
-//! A few rows in plain sight. The table's rows, and what binutils says of an instruction of each, are compared by `target_vectors`.
+//! A few rows, written out. `target_vectors` compares all rows of the table, and what binutils says of an instruction of each.
 
 use crate::armv6m::encoding::code_if;
 use crate::expect::{expect, expect_all};
@@ -54,7 +54,7 @@ fn halfwords_without_a_row(rt: HostRuntime) {
     expect_all(&rt, &[undefined, needs_second]);
 }
 
-/// A pair is this instruction, or none.
+/// Asserts that a pair of halfwords is this instruction, or none.
 fn assert_pair(rt: &impl Abort, first: u16, second: u16, due: Option<Instr>) {
     expect(rt, &code_if(decode32(first, second)), &code_if(due));
 }
@@ -92,7 +92,7 @@ fn pairs_without_a_row(rt: HostRuntime) {
     }
 }
 
-/// A branch to 254 bytes ahead of the PC and 256 behind it, and a literal's aligned base.
+/// A branch to 254 bytes after the PC and one to 256 bytes before it, and the aligned base of a literal.
 #[test]
 fn targets_of_branches(rt: HostRuntime) {
     let found = [
@@ -106,7 +106,7 @@ fn targets_of_branches(rt: HostRuntime) {
     expect(&rt, &found, &due);
 }
 
-/// A condition has this code, and is that of the code.
+/// Asserts that a condition has this code, and that the code has this condition.
 fn assert_code(rt: &impl Abort, condition: Condition, code: u8) {
     let found = condition.code();
     let back = Condition::with_code(found);

@@ -1,4 +1,4 @@
-//! The encoder turns the decoder round.
+//! The encoder is the inverse of the decoder.
 
 use crate::expect::expect;
 use armv6m_decode::registers::{APSR, MSP, PRIMASK};
@@ -6,7 +6,7 @@ use armv6m_decode::{Branch, Decoded, Instr, Other, decode16, decode32};
 use armv6m_encode::{Encoding, encode, has_encoding};
 use std::process::Abort;
 
-/// The code of an instruction, if it has one. No two instructions have the same, so they are compared by their codes.
+/// The code of an instruction, if it has one. No two instructions have the same code, so tests compare instructions by their codes.
 pub fn code_of(instr: &Instr) -> Option<Encoding> {
     if has_encoding(instr) {
         Some(encode(instr))
@@ -15,7 +15,7 @@ pub fn code_of(instr: &Instr) -> Option<Encoding> {
     }
 }
 
-/// The codes of what may be an instruction.
+/// The code of an instruction, if there is an instruction.
 pub fn code_if(instr: Option<Instr>) -> Option<Option<Encoding>> {
     match instr {
         Some(instr) => Some(code_of(&instr)),
@@ -35,7 +35,7 @@ fn each_halfword_comes_back(rt: HostRuntime) {
     }
 }
 
-/// What the decoder reads of a pair whose first halfword asks for the second.
+/// What the decoder reads of two halfwords, where the first one needs a second.
 pub fn read_pair(code: Option<Encoding>) -> Option<Instr> {
     match code {
         Some(Encoding::Pair { first, second }) => match decode16(first) {
@@ -46,7 +46,7 @@ pub fn read_pair(code: Option<Encoding>) -> Option<Instr> {
     }
 }
 
-/// An instruction's pair is read as the instruction.
+/// Asserts that the two halfwords of an instruction are read as the instruction.
 pub fn assert_read_back(rt: &impl Abort, instr: &Instr) {
     let code = code_of(instr);
     expect(rt, &code_if(read_pair(code)), &Some(code));

@@ -1,4 +1,4 @@
-//! Forms there and back, and a case of each rule. Statements that other tools write are compared by `target_vectors`.
+//! Instructions to forms and back, and a case of each rule. `target_vectors` compares statements that other tools write.
 
 use crate::armv6m::encoding::{code_if, code_of};
 use crate::expect::expect;
@@ -10,7 +10,7 @@ use armv6m_forms::{
 };
 use std::process::Abort;
 
-/// The instruction that is made where several have one form.
+/// The instruction that a form makes, where several instructions have that form.
 fn made(instr: Instr) -> Instr {
     match instr {
         Instr::Alu(Alu::CmpHigh { n, m }) if n < 8 && m < 8 => {
@@ -29,7 +29,7 @@ fn read(form: Form, at: u32) -> Option<Instr> {
     }
 }
 
-/// The instruction that is made comes back from the form at an address.
+/// Asserts that the form of an instruction at an address makes it again.
 fn assert_back(rt: &impl Abort, instr: Instr, at: u32) {
     let read = read(form_at(&instr, at), at);
     expect(rt, &code_if(read), &Some(code_of(&made(instr))));
@@ -53,7 +53,7 @@ fn each_long_branch_comes_back(rt: HostRuntime) {
     }
 }
 
-/// What reaches each target from an address.
+/// Asserts which instructions reach each target from an address.
 fn assert_reached(rt: &impl Abort, aim: Aim, reached: &[(u32, u32, Option<Instr>)]) {
     for &(at, target, due) in reached {
         expect(rt, &code_if(reach(aim, at, target)), &code_if(due));
@@ -68,7 +68,7 @@ fn branch(immediate: u8) -> Option<Instr> {
     }))
 }
 
-/// The ends of B with a condition: 254 bytes ahead of the address plus 4, and 256 bytes back.
+/// The ends of B with a condition: 254 bytes after the address plus 4, and 256 bytes before it.
 #[test]
 fn ends_of_a_branch(rt: HostRuntime) {
     let aim = Aim::BranchIf {
@@ -89,7 +89,7 @@ fn load(immediate: u8) -> Option<Instr> {
     Some(Instr::Memory(Memory::LdrLiteral { t: 1, immediate }))
 }
 
-/// A literal's address is counted from the PC without its two low bits.
+/// The address of a literal is counted from the PC with its two low bits cleared.
 #[test]
 fn literals(rt: HostRuntime) {
     let reached = [
@@ -102,7 +102,7 @@ fn literals(rt: HostRuntime) {
     assert_reached(&rt, Aim::Load { t: 1 }, &reached);
 }
 
-/// LSRS R0, R1 by so many bits.
+/// LSRS R0, R1 by `immediate` bits.
 fn right(immediate: u32) -> Option<Instr> {
     let operands = Operands::TwoImmediate {
         d: 0,
@@ -127,7 +127,7 @@ fn with_lr(mnemonic: Mnemonic) -> Option<Instr> {
     instruction(mnemonic, Operands::List { list: 0x4011 })
 }
 
-/// LSRS by 32 is the field 0, and by 0 is none; an offset counts words; LR goes with PUSH alone.
+/// LSRS by 32 has the field 0, and by 0 there is none. An offset counts words. LR goes with PUSH alone.
 #[test]
 fn fields(rt: HostRuntime) {
     let by_32 = Instr::Alu(Alu::LsrsImmediate {
@@ -157,14 +157,14 @@ fn fields(rt: HostRuntime) {
     }
 }
 
-/// The line of an instruction at an address.
+/// Asserts the line of an instruction at an address.
 fn assert_line(rt: &impl Abort, instr: Instr, at: u32, due: &[u8]) {
     let mut line = Line::new();
     disassemble(&instr, at, &mut line);
     expect(rt, line.bytes(), due);
 }
 
-/// A field that no encoding has is written as it stands.
+/// A field that no encoding has is written as a number.
 #[test]
 fn lines(rt: HostRuntime) {
     let link = Instr::Branch(Branch::Bx { m: LR });

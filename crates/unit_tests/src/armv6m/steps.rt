@@ -1,5 +1,4 @@
-//! Tests of single instructions. What QEMU leaves after one of each row, each condition, each end and compiled code are compared by
-//! `target_vectors`.
+//! Tests of single instructions. `target_vectors` compares what QEMU leaves after one of each row, and conditions, ends and compiled code.
 
 mod ends;
 mod worked;
@@ -14,7 +13,7 @@ const BASE: u32 = 0x2000_0000;
 
 const HERE: u32 = BASE + 0x40;
 
-/// A core with nothing but an address.
+/// A core in which only the address is set.
 fn core_at(pc: u32) -> Core {
     let mut core = Core {
         regs: [0; 16],
@@ -28,13 +27,13 @@ fn core_at(pc: u32) -> Core {
     core
 }
 
-/// Puts bytes to a place behind all that was put before, with nothing between.
+/// Puts bytes at a place after all bytes that were put before, with zeros between.
 fn put(bytes: &mut Vec<u8>, at: usize, part: &[u8]) -> Result<(), AllocError> {
     bytes.resize(at, 0)?;
     bytes.extend_from_slice(part)
 }
 
-/// Puts two halfwords of code to 0x40, and the data to 0x100, in 1024 bytes.
+/// Puts two halfwords of code to 0x40, and the data to 0x100, in 1,024 bytes.
 fn fill(bytes: &mut Vec<u8>, first: u16, second: u16, data: &[u8]) -> Result<(), AllocError> {
     put(bytes, 0x40, &first.to_le_bytes())?;
     put(bytes, 0x42, &second.to_le_bytes())?;
@@ -42,7 +41,7 @@ fn fill(bytes: &mut Vec<u8>, first: u16, second: u16, data: &[u8]) -> Result<(),
     put(bytes, 0x400, &[])
 }
 
-/// 1024 bytes of memory: two halfwords of code at 0x20000040, and the data from 0x20000100 on.
+/// 1,024 bytes of memory: two halfwords of code at 0x20000040, and the data from 0x20000100 on.
 fn bus_with(alloc: Global, first: u16, second: u16, data: &[u8]) -> Result<MemoryBus, AllocError> {
     let mut bytes = Vec::new(alloc);
     fill(&mut bytes, first, second, data)?;
@@ -63,7 +62,7 @@ fn stepped(
     Ok((end, core))
 }
 
-/// A step of this code over this data ends so, and leaves this core.
+/// Asserts how a step of this code over this data ends, and that it leaves this core.
 fn assert_step(
     rt: &impl Abort,
     alloc: Global,
@@ -77,13 +76,13 @@ fn assert_step(
     Ok(())
 }
 
-/// The memory has these bytes from a place on.
+/// Asserts that the memory has these bytes from a place on.
 fn assert_memory(rt: &impl Abort, bus: &MemoryBus, at: usize, due: &[u8]) {
     let end = at.wrapping_add(due.len());
     expect(rt, bus.bytes().get(at..end).unwrap_or(&[]), due);
 }
 
-/// A step of a halfword ends so, leaves this core, and stores these bytes from a place on.
+/// Asserts how a step of a halfword ends, that it leaves this core, and that it stores these bytes from a place on.
 fn assert_stores(
     rt: &impl Abort,
     alloc: Global,

@@ -17,7 +17,7 @@ fn a_bench_holds_what_was_written(rt: HostRuntime) -> Result<(), Fail> {
     )
 }
 
-/// Whether each call that changes the cells or the job file goes through, and what then is read, and stands in the files, is what was
+/// Whether each call that changes the cells or the job file goes through, and whether what is then read, and is in the files, is what was
 /// written.
 fn written_and_held(files: &mut Files) -> [bool; 15] {
     [
@@ -39,7 +39,7 @@ fn written_and_held(files: &mut Files) -> [bool; 15] {
     ]
 }
 
-/// Others cut both files under the bench: what isn't there any more is a fault.
+/// Other programs cut both files while a bench uses them. A read of what is no longer there is a fault.
 #[test]
 fn files_that_others_cut_are_not_read_whole(rt: HostRuntime) -> Result<(), Fail> {
     let ends = ("short_job", "short_cells");
@@ -53,7 +53,7 @@ fn files_that_others_cut_are_not_read_whole(rt: HostRuntime) -> Result<(), Fail>
     )
 }
 
-/// Whether both files are read whole, and aren't any more once they are cut.
+/// Whether both files are read whole, and are no longer once they are cut.
 fn whole_and_cut(files: &mut Files) -> [bool; 10] {
     [
         files.write_synced(0, b"abcdef"),
@@ -81,7 +81,7 @@ fn a_missing_cells_file_has_no_cells(rt: HostRuntime) -> Result<(), Fail> {
     )
 }
 
-/// Whether a bench has no cells, breaks nothing off, and makes no job file.
+/// Whether a bench has no cells, breaks no operation off, and makes no job file.
 fn no_cells(files: &mut Files) -> [bool; 3] {
     [
         files.bench.cells_len() == 0,
@@ -96,7 +96,7 @@ fn a_folder_is_no_file(rt: HostRuntime) -> Result<(), Fail> {
     over(&rt, job, Temporary::folder(rt)?, no_files, [true; 4])
 }
 
-/// Whether a bench has no cells and breaks nothing off, has no job file and gets none.
+/// Whether a bench has no cells and breaks no operation off, and has no job file and makes none.
 fn no_files(files: &mut Files) -> [bool; 4] {
     [
         files.bench.cells_len() == 0,

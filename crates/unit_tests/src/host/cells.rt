@@ -1,4 +1,4 @@
-//! Cells through the window of those that were read last.
+//! Cells that are read through the window of those that were read last.
 
 use super::{Temporary, pattern};
 use crate::expect::expect_all;
@@ -13,10 +13,10 @@ use std::fs;
 use std::process::Abort;
 use std::test::Fail;
 
-/// A window of cells, and some of the next.
+/// The number of cells: those of a window, and some of the next one.
 const CELLS: usize = 5000;
 
-/// A bench over a file of cells of a test's own. Calls that answer no value say whether they went well.
+/// A bench over a file of cells that only one test uses. Calls that answer no value say whether they went well.
 #[derive(Drop)]
 struct Trial {
     file: Temporary,
@@ -52,7 +52,7 @@ impl Trial {
         len > 0 && len <= count && at <= count - len && self.bench.cells_open(at, len).is_ok()
     }
 
-    /// An operation on as many cells, with its end.
+    /// Makes an operation that settles these cells, and ends it.
     fn settle(&mut self, at: u32, bytes: &[u8]) -> bool {
         match u32::try_from(bytes.len()) {
             Ok(len) => self.open(at, len) && self.bench.cells_settle(bytes).is_ok(),
@@ -60,12 +60,12 @@ impl Trial {
         }
     }
 
-    /// An operation that fills cells, with its end.
+    /// Makes an operation that fills cells, and ends it.
     fn fill(&mut self, at: u32, len: u32, value: u8) -> bool {
         self.open(at, len) && self.bench.cells_settle_fill(value).is_ok()
     }
 
-    /// The cell of the file itself.
+    /// The cell as it is in the file itself.
     fn stored(&self, at: usize) -> Option<u8> {
         match fs::read(&self.file.rt, self.file.name.text()) {
             Ok(cells) => cells.get(at).copied(),
@@ -74,7 +74,7 @@ impl Trial {
     }
 }
 
-/// Asserts what is seen of a bench over a file with this end of its name.
+/// Asserts the answers of a bench over a file with this end of its name.
 fn over_pattern<T: PartialEq + Debug + Copy, F: FnOnce(&mut Trial) -> T + Copy>(
     rt: &impl Abort,
     host: HostRuntime,
@@ -96,7 +96,7 @@ fn a_settle_is_seen_at_once(rt: HostRuntime) -> Result<(), Fail> {
     over_pattern(&rt, rt, "settled", settled, [true; 11])
 }
 
-/// Whether cells that were settled are read, over the end of a window and before it, once and once more.
+/// Whether cells that were settled are read, over the end of a window and before it, twice.
 fn settled(trial: &mut Trial) -> [bool; 11] {
     [
         trial.reads(4094, [78, 79, 80, 81]),
@@ -166,7 +166,7 @@ fn filled(trial: &mut Trial) -> [bool; 5] {
     ]
 }
 
-/// Whether the file has the cells of the pattern but for such a fill.
+/// Whether the file has the cells of the pattern, except where they were filled.
 fn is_filled(file: &Temporary) -> bool {
     match pattern(file.rt.alloc(), CELLS) {
         Ok(mut wanted) => {
@@ -190,7 +190,7 @@ fn place(trial: &mut Trial) -> bool {
     }
 }
 
-/// Whether these cells stand there then.
+/// Whether these cells are there after that.
 fn placed(trial: &mut Trial) -> [bool; 7] {
     [
         place(trial),
@@ -203,7 +203,7 @@ fn placed(trial: &mut Trial) -> [bool; 7] {
     ]
 }
 
-/// The cells of a file through a window, beside a job file with no name.
+/// The cells of a file through a window, with a job file that has no name.
 fn windowed(rt: HostRuntime, name: &str) -> Result<WindowedDisk<HostDisk>, OutOfMemory> {
     let name = Word::copy(rt.alloc(), name)?;
     let job = Word::copy(rt.alloc(), "")?;
@@ -212,7 +212,7 @@ fn windowed(rt: HostRuntime, name: &str) -> Result<WindowedDisk<HostDisk>, OutOf
     Ok(WindowedDisk::new(rt.alloc(), HostDisk::new(job, cells)))
 }
 
-/// Whether as many cells as are asked for are read in one call.
+/// Whether all cells that are asked for are read in one call.
 fn fills(cells: &mut WindowedDisk<HostDisk>, at: u64, found: &mut [u8]) -> bool {
     matches!(cells.cells_read_at(at, found), Ok(count) if count == found.len())
 }
@@ -231,13 +231,13 @@ fn nothing_is_read_past_the_last_cell(rt: HostRuntime) -> Result<(), Fail> {
     Ok(())
 }
 
-/// What is seen at the end of the cells, and of a read that is longer than a window.
+/// The answers of reads at the end of the cells, and of a read that is longer than a window.
 fn ended(file: &Temporary) -> Result<[bool; 7], OutOfMemory> {
     let mut cells = windowed(file.rt, file.name.text())?;
     Ok(end_is_kept(&mut cells, file))
 }
 
-/// Whether the last cells are read, and none past them, nor is a window of such kept; and many cells are read at once.
+/// Whether the last cells are read and none past them, whether no window past the end is kept, and whether many cells are read at once.
 fn end_is_kept(cells: &mut WindowedDisk<HostDisk>, file: &Temporary) -> [bool; 7] {
     [
         reads(cells, 0, [0, 1, 2, 3]) && reads(cells, 4996, [227, 228, 229, 230]),
@@ -250,7 +250,7 @@ fn end_is_kept(cells: &mut WindowedDisk<HostDisk>, file: &Temporary) -> [bool; 7
     ]
 }
 
-/// Whether four cells aren't read from this place on, while the last four then are.
+/// Whether four cells can't be read from this place on, while the last four can.
 fn ends_before(cells: &mut WindowedDisk<HostDisk>, at: u64) -> bool {
     !fills(cells, at, &mut [0; 4]) && reads(cells, 4996, [227, 228, 229, 230])
 }
@@ -272,14 +272,14 @@ fn a_window_is_kept_until_it_is_dropped(rt: HostRuntime) -> Result<(), Fail> {
     Ok(())
 }
 
-/// What is seen of a window while others write the file.
+/// The answers of reads through a window while another program writes the file.
 fn written_meanwhile(file: &Temporary) -> Result<[bool; 12], OutOfMemory> {
     let mut cells = windowed(file.rt, file.name.text())?;
     Ok(kept_and_dropped(&mut cells, file))
 }
 
-/// Whether a window is kept though others write the file, up to an operation that is broken off; and a sync drops it, and so does a read
-/// that is longer than it.
+/// Whether a window is kept while another program writes the file, until an operation is broken off. A sync drops the window too, and so
+/// does a read that is longer than the window.
 fn kept_and_dropped(cells: &mut WindowedDisk<HostDisk>, file: &Temporary) -> [bool; 12] {
     [
         reads(cells, 0, [0, 1, 2, 3]),
@@ -305,13 +305,13 @@ fn a_write_that_failed_is_not_seen(rt: HostRuntime) -> Result<(), Fail> {
     Ok(())
 }
 
-/// What is seen of a write of it.
+/// The answers of a write to it and of reads.
 fn full(rt: HostRuntime) -> Result<[bool; 4], OutOfMemory> {
     let mut cells = windowed(rt, "/dev/full")?;
     Ok(unwritten(&mut cells))
 }
 
-/// Whether a write fails, and zeros are read behind it.
+/// Whether a write fails, and zeros are read after it.
 fn unwritten(cells: &mut WindowedDisk<HostDisk>) -> [bool; 4] {
     let mut found = [1; 2];
     [

@@ -28,14 +28,14 @@ fn inputs_are_files(rt: HostRuntime) -> Result<(), Fail> {
     Ok(())
 }
 
-/// What is seen of a file as an input, a short one and a long one.
+/// The answers for a file as an input, a short one and a long one.
 fn taken(file: &Temporary) -> Result<[bool; 6], AllocError> {
     let long = pattern(file.rt.alloc(), 70_000)?;
     let mut inputs = FileInputs::new(file.rt);
     Ok(taken_from(&mut inputs, file, &long))
 }
 
-/// Whether a file is an input once it is there.
+/// Whether a file can be taken once it exists.
 fn taken_from(inputs: &mut FileInputs, file: &Temporary, long: &[u8]) -> [bool; 6] {
     [
         refuses(inputs, file),

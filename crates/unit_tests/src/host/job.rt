@@ -54,7 +54,7 @@ fn is_read(file: &Temporary) -> Result<bool, OutOfMemory> {
     Ok(reads(&mut job, *b"abcxy12345"))
 }
 
-/// Makes the file calls of a job's beginning.
+/// Makes the file calls of a job that is begun.
 fn begin(files: &mut Files, body: &[u8]) -> bool {
     files.bench.file_sync().is_ok()
         && files.write_synced(0, &[0])
@@ -73,7 +73,7 @@ fn reopen(files: &mut Files) -> bool {
     }
 }
 
-/// A run that is killed does nothing more. So the first bench is dropped as it is, with an operation open.
+/// A run that is killed does nothing more. So the test drops the first bench as it is, with an operation open.
 #[test]
 fn a_job_stands_after_its_run_was_killed(rt: HostRuntime) -> Result<(), Fail> {
     let ends = ("begun", "begun_on");
@@ -105,7 +105,7 @@ fn a_link_that_leads_nowhere_is_no_job_file(rt: HostRuntime) -> Result<(), Fail>
     Ok(())
 }
 
-/// What is seen of the file that a link names.
+/// The answers for a job file that is named by a link.
 fn linked(link: &Temporary) -> Result<[bool; 9], Fail> {
     let file = Temporary::new(link.rt, "linked")?;
     let made = link.link_to(&file);
@@ -113,7 +113,7 @@ fn linked(link: &Temporary) -> Result<[bool; 9], Fail> {
     Ok(named_by(&mut job, made, link, &file))
 }
 
-/// Whether the job file isn't there and a write doesn't make it, while it is written once it was made.
+/// Whether the job file is missing and a write doesn't make it, but is written once the file was made.
 fn named_by(job: &mut FileBench, made: bool, link: &Temporary, file: &Temporary) -> [bool; 9] {
     [
         made,

@@ -1,4 +1,4 @@
-//! Other programs at the same files.
+//! Other programs that use the same files.
 
 use super::{Files, Temporary, bench_over};
 use crate::expect::expect_all;
@@ -15,7 +15,7 @@ use std::{fs, io};
 /// The cells of each test.
 const CELLS: [u8; 6] = [1, 2, 3, 4, 5, 6];
 
-/// The files of a bench, the job file with three bytes, and the same files opened by another program.
+/// The files of a bench, with three bytes in the job file, and the same files opened by another program.
 #[derive(Drop)]
 struct Shared {
     files: Files,
@@ -23,7 +23,7 @@ struct Shared {
     cells: File,
 }
 
-/// A bench over files with these ends of their names, the job file with three bytes.
+/// A bench over files with these ends of their names, with three bytes in the job file.
 fn with_job(rt: HostRuntime, ends: (&str, &str)) -> Result<Files, Fail> {
     let files = Files::new(rt, ends, &CELLS)?;
     fs::write(&rt, files.job.name.text(), b"abc")?;
@@ -37,7 +37,7 @@ fn opened(files: &Files) -> io::Result<(File, File)> {
     Ok((job, cells))
 }
 
-/// Asserts what is seen of such a bench over files that another program has opened.
+/// Asserts the answers of a bench over files that another program has opened.
 fn over_opened<T: PartialEq + Debug + Copy, F: FnOnce(&mut Shared) -> T + Copy>(
     rt: &impl Abort,
     host: HostRuntime,
@@ -54,17 +54,17 @@ fn over_opened<T: PartialEq + Debug + Copy, F: FnOnce(&mut Shared) -> T + Copy>(
     Ok(())
 }
 
-/// Whether a program can write a file, which it then keeps.
+/// Whether a program can lock a file for writing. It keeps the lock.
 fn writes(file: &File) -> bool {
     file.try_lock().is_ok()
 }
 
-/// Whether a program can read a file, which it then keeps.
+/// Whether a program can lock a file for reading. It keeps the lock.
 fn reads(file: &File) -> bool {
     file.try_lock_shared().is_ok()
 }
 
-/// Gives a file back, and says whether that went well.
+/// Gives up the lock of a file, and says whether that went well.
 fn gives_back(file: &File) -> bool {
     file.unlock().is_ok()
 }
@@ -94,7 +94,7 @@ fn files_that_another_program_writes_are_faults(rt: HostRuntime) -> Result<(), F
     )
 }
 
-/// Whether no call goes through while another program writes both files, which are read once it has given them back.
+/// Whether no call goes through while another program has both files locked for writing. They are read once it has given up the locks.
 fn kept_and_given_back(shared: &mut Shared) -> [bool; 10] {
     [
         writes(&shared.job),
@@ -115,7 +115,7 @@ fn a_job_file_that_another_program_reads_is_not_changed(rt: HostRuntime) -> Resu
     over_opened(&rt, rt, ("read_job", "its_cells"), job_stays, [true; 7])
 }
 
-/// Whether the job file is read and not changed while another program reads it, and no more once it was refused a change.
+/// Whether the job file is read and not changed while another program reads it, and isn't read any more once a change was refused.
 fn job_stays(shared: &mut Shared) -> [bool; 7] {
     [
         reads(&shared.job),
@@ -133,7 +133,7 @@ fn cells_that_another_program_reads_are_not_changed(rt: HostRuntime) -> Result<(
     over_opened(&rt, rt, ("its_job", "read_cells"), cells_stay, [true; 7])
 }
 
-/// Whether the same holds of the cells.
+/// Whether the cells are read and not changed while another program reads them.
 fn cells_stay(shared: &mut Shared) -> [bool; 7] {
     [
         reads(&shared.cells),
@@ -183,7 +183,7 @@ fn a_file_that_was_read_is_written_by_no_other(rt: HostRuntime) -> Result<(), Fa
     )
 }
 
-/// Whether another program writes the files before they are looked at, and only reads them behind that.
+/// Whether another program can write the files before the bench has looked at them, and after that can only read them.
 fn job_and_cells_are_seen(shared: &mut Shared) -> [bool; 12] {
     [
         writes(&shared.job),
@@ -212,7 +212,7 @@ fn a_file_that_was_changed_is_kept_to_the_end(rt: HostRuntime) -> Result<(), Fai
     )
 }
 
-/// Whether no other program reads a file once it was opened to be changed, and so it stays.
+/// Whether no other program can read a file once the bench has opened it to change it, from then on.
 fn own_and_still_own(shared: &mut Shared) -> [bool; 11] {
     [
         shared.files.open(0, 2),
@@ -234,7 +234,7 @@ fn a_cut_keeps_the_job_file_too(rt: HostRuntime) -> Result<(), Fail> {
     over_opened(&rt, rt, ("cut_job", "cut_cells"), cut, [true; 4])
 }
 
-/// Whether no other program reads a job file that was cut.
+/// Whether no other program can read a job file that was cut.
 fn cut(shared: &mut Shared) -> [bool; 4] {
     [
         shared.files.bench.file_cut(2).is_ok(),
@@ -244,13 +244,13 @@ fn cut(shared: &mut Shared) -> [bool; 4] {
     ]
 }
 
-/// Whether a job file of this name is a fault over these cells, which stay.
+/// Whether a job file with this name is a fault over these cells, which stay unchanged.
 fn is_refused(cells: &Temporary, name: &Temporary) -> Result<bool, OutOfMemory> {
     let mut bench = bench_over(name, cells)?;
     Ok(job_is_refused(&mut bench, cells))
 }
 
-/// Whether no call on the job file goes through, and the cells file stays.
+/// Whether no call on the job file goes through, and the cells file stays unchanged.
 fn job_is_refused(bench: &mut FileBench, cells: &Temporary) -> bool {
     bench.file_len().is_err()
         && bench.file_write(0, b"x").is_err()
@@ -266,7 +266,7 @@ fn the_cells_file_is_no_job_file(rt: HostRuntime) -> Result<(), Fail> {
     Ok(())
 }
 
-/// Whether it is refused by its own name and by links to it, and is removed.
+/// Whether the cells file is refused as a job file by its own name and by links to it, and is removed.
 fn refused_by_each_name(cells: &Temporary) -> Result<[bool; 4], Fail> {
     Ok([
         is_refused(cells, cells)?,
@@ -283,14 +283,14 @@ fn by_symbolic_link(cells: &Temporary) -> Result<bool, Fail> {
     Ok(is_refused(cells, &link)? && made && link.remove())
 }
 
-/// Whether a hard link is.
+/// Whether a hard link is made, refused as a job file, and removed.
 fn by_hard_link(cells: &Temporary) -> Result<bool, Fail> {
     let link = Temporary::new(cells.rt, "twice_hard")?;
     let made = fs::hard_link(&cells.rt, cells.name.text(), link.name.text()).is_ok();
     Ok(is_refused(cells, &link)? && made && link.remove())
 }
 
-/// What is seen of a bench over files with these ends of their names, beside others.
+/// The answers of a bench over files with these ends of their names, while other benches are open.
 fn beside<F: FnOnce(&mut Files) -> bool + Copy>(
     rt: HostRuntime,
     others: &[FileBench],
@@ -306,7 +306,7 @@ fn beside<F: FnOnce(&mut Files) -> bool + Copy>(
     Ok(look(&mut files))
 }
 
-/// A bench over two files, beside others.
+/// A bench over two files, while other benches are open.
 fn bench_beside(
     job: &Temporary,
     cells: &Temporary,
@@ -325,19 +325,19 @@ fn a_file_of_another_bench_is_a_fault(rt: HostRuntime) -> Result<(), Fail> {
     Ok(())
 }
 
-/// What is seen of benches beside one over files.
+/// The answers of benches while a first one is open over its files.
 fn seen_beside(rt: HostRuntime) -> Result<([bool; 4], [bool; 3], [bool; 4]), Fail> {
     let files = with_job(rt, ("first_job", "first_cells"))?;
     beside_others(&files)
 }
 
-/// The same where there are other files too.
+/// The answers of benches over other files too, while a first one is open over these.
 fn beside_others(files: &Files) -> Result<([bool; 4], [bool; 3], [bool; 4]), Fail> {
     let mut others = with_job(files.job.rt, ("second_job", "second_cells"))?;
     beside_files(files, &mut others)
 }
 
-/// The same, and whether the other files are then as they were, and all are removed.
+/// The answers of benches over other files too. Checks also that the other files are then unchanged, and that all are removed.
 fn beside_files(
     files: &Files,
     others: &mut Files,
@@ -352,7 +352,7 @@ fn beside_files(
     Ok((kept, changed, left))
 }
 
-/// The same where a link, which goes then, leads to the cells.
+/// The answers of benches while a link, which is then removed, leads to the first one's cells.
 fn beside_linked(files: &Files) -> Result<([bool; 4], [bool; 3]), Fail> {
     let link = Temporary::new(files.job.rt, "first_link")?;
     let made = link.link_to(&files.cells);
@@ -360,14 +360,15 @@ fn beside_linked(files: &Files) -> Result<([bool; 4], [bool; 3]), Fail> {
     Ok((kept, [made, changed, link.remove()]))
 }
 
-/// Whether the first bench changes its files, while those beside it don't.
+/// Whether the first bench changes its files, while the other benches don't.
 fn beside_first(files: &Files) -> Result<([bool; 4], bool), Fail> {
     let mut first = [bench_over(&files.job, &files.cells)?];
     let kept = kept_from(files.job.rt, &first)?;
     Ok((kept, changes(&mut first[0], files)))
 }
 
-/// Whether its job file is none of another, nor are its cells by the link; its cells are no job file of another, nor its job file cells.
+/// Whether other benches are kept from the first one's job file, from its cells by a link, from its cells as a job file, and from its job
+/// file as cells.
 fn kept_from(rt: HostRuntime, first: &[FileBench]) -> Result<[bool; 4], Fail> {
     Ok([
         beside(rt, first, ("first_job", "second_cells"), job_alone_is_kept)?,
@@ -382,12 +383,12 @@ fn kept_from(rt: HostRuntime, first: &[FileBench]) -> Result<[bool; 4], Fail> {
     ])
 }
 
-/// Whether no call on the job file goes through, over cells that are free.
+/// Whether no call on the job file goes through, while the cells are free.
 fn job_alone_is_kept(files: &mut Files) -> bool {
     job_is_kept(files) && files.reads_cells(CELLS)
 }
 
-/// Whether no call on the cells goes through, beside a job file that is free, which is read and not changed.
+/// Whether no call on the cells goes through, while the job file is free and is read and not changed.
 fn cells_alone_are_kept(files: &mut Files) -> bool {
     cells_are_kept(files) && files.reads(0, *b"abc") && files.bench.file_write(0, b"x").is_err()
 }
@@ -397,7 +398,7 @@ fn changes(bench: &mut FileBench, files: &Files) -> bool {
     bench.file_write(0, b"x").is_ok() && bench.cells_drop().is_ok() && files.hold(b"xbc", &CELLS)
 }
 
-/// No program that runs can be opened for writing, whoever asks.
+/// No process can open a program that runs for writing.
 #[test]
 fn cells_that_cannot_be_written_are_read(rt: HostRuntime) -> Result<(), Fail> {
     let job = Temporary::new(rt, "program_job")?;
@@ -406,19 +407,19 @@ fn cells_that_cannot_be_written_are_read(rt: HostRuntime) -> Result<(), Fail> {
     Ok(())
 }
 
-/// What is seen of a bench whose cells are the running program, and of its job file.
+/// The answers of a bench with the running program as its cells, and of its job file.
 fn program_as_cells(job: &Temporary) -> Result<[bool; 5], OutOfMemory> {
     let mut bench = bench_over_program(job)?;
     Ok(program_is_read(&mut bench, job))
 }
 
-/// A bench whose cells are the running program.
+/// A bench with the running program as its cells.
 fn bench_over_program(job: &Temporary) -> Result<FileBench, OutOfMemory> {
     let program = Word::copy(job.rt.alloc(), "/proc/self/exe")?;
     Ok(FileBench::new(job.rt, job.word()?, program))
 }
 
-/// Whether the cells are a program, before and behind an operation that isn't opened, and no job file is made.
+/// Whether the cells are a program, before and after an operation that can't be opened, and whether no job file is made.
 fn program_is_read(bench: &mut FileBench, job: &Temporary) -> [bool; 5] {
     [
         is_program(bench),
@@ -435,7 +436,7 @@ fn is_program(bench: &mut FileBench) -> bool {
     bench.cells_len() >= 6 && bench.cells_read(0, &mut found).is_ok() && found == *b"\x7fELF"
 }
 
-/// Whether an operation on the first two cells isn't opened.
+/// Whether an operation on the first two cells can't be opened.
 fn cannot_be_opened(bench: &mut FileBench) -> bool {
     bench.cells_len() >= 6 && bench.cells_open(0, 2).is_err()
 }

@@ -5,7 +5,7 @@ use std::fs;
 use std::os::unix::fs::MetadataExt;
 use std::test::Fail;
 
-/// The root of a file system has a number of its own there, mostly 1.
+/// Roots of file systems. The root of each of them has a number of its own there, mostly 1.
 const ROOTS: [&str; 4] = ["/sys", "/dev/shm", "/dev/pts", "/dev"];
 
 /// The number of a file on its file system.
@@ -30,12 +30,12 @@ fn files_of_one_number_on_two_systems_are_two(rt: HostRuntime) -> Result<(), Fai
     Ok(())
 }
 
-/// Whether this is the root of the first file system.
+/// Whether this root is the one of the first file system.
 fn is_first(rt: HostRuntime, root: &str) -> bool {
     FileId::named(rt, root) == FileId::named(rt, "/proc")
 }
 
-/// Whether this has the number of that root.
+/// Whether a file has the number of that root.
 fn has_its_number(rt: HostRuntime, root: &str) -> bool {
     number_of(rt, root) == number_of(rt, "/proc")
 }

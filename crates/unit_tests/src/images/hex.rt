@@ -4,7 +4,7 @@ use crate::expect::expect;
 use crate::images::maps::expect_read;
 use image_hex::{HexFault, HexKind, read_hex};
 
-/// Addresses behind a segment wrap within its 64 KiB.
+/// Addresses after a segment's end wrap within its 64 KiB.
 #[test]
 fn a_segment_wraps(rt: HostRuntime) {
     let text = b":020000021000EC\n:04FFFE0001020304F5\n:00000001FF\n";
@@ -12,8 +12,8 @@ fn a_segment_wraps(rt: HostRuntime) {
     expect_read(&rt, read_hex(rt.alloc(), text), 2, &bytes);
 }
 
-/// Bases replace one another, addresses go on modulo 2^32, lines may be blank or end in blanks and CR LF, digits have either
-/// case, equal bytes may be said twice, start addresses are ignored, and what follows the end record is left unread.
+/// Bases replace one another. Addresses go on modulo 2^32. Lines may be blank or end in blanks and CR LF. Digits have either case. Equal
+/// bytes may be given twice. Start addresses are ignored, and what follows the end record isn't read.
 #[test]
 fn bases_blanks_and_what_is_ignored(rt: HostRuntime) {
     let text =

@@ -17,7 +17,7 @@ fn digits_become_bytes(rt: HostRuntime) {
     expect(&rt, payload.bytes(), bytes.as_slice());
 }
 
-/// Each byte is a digit or not, wherever it stands among 40 others, and as the high and as the low one of a pair.
+/// Each byte is a digit or not, at each place among 40 others, and as the high and as the low one of a pair.
 #[test]
 fn each_byte_as_a_digit(rt: HostRuntime) {
     for byte in 0..=255u8 {
@@ -39,7 +39,7 @@ fn each_byte_as_a_digit(rt: HostRuntime) {
     }
 }
 
-/// Asserts that a map without bytes takes a byte twice, and no other one in its place.
+/// Asserts that a map without bytes takes a byte twice, and no other byte at its address.
 fn expect_added_once(rt: &impl Abort, map: &mut ByteMap) {
     let laid = [
         lay_cells(map, 0x10, &[1, 2]),

@@ -1,4 +1,4 @@
-//! Maps laid in every order.
+//! Maps into which pieces are put in every order.
 
 use crate::expect::expect;
 use crate::images::maps::{Piece, expect_map, expect_runs, map_of};
@@ -13,7 +13,7 @@ const HIGH: Piece<'static> = (0x16, &[6, 7]);
 
 const LAST: Piece<'static> = (0xFFFF_FFFE, &[0xEE, 0xFF]);
 
-/// A piece beside a run, between two, over both, in one, without bytes, at the first address, and at the last ones.
+/// A piece beside a run, between two runs, over both, and in one; without bytes; at the first address and at the last ones.
 #[test]
 fn pieces_join_the_runs_that_they_touch(rt: HostRuntime) {
     let cases: [(Piece, &[Piece]); 12] = [
@@ -42,14 +42,14 @@ fn pieces_join_the_runs_that_they_touch(rt: HostRuntime) {
     }
 }
 
-/// Asserts that a map of the three runs refuses a piece, and stays as it was.
+/// Asserts that a map of the three runs refuses a piece, and stays unchanged.
 fn expect_refused(rt: &impl Abort, map: &mut ByteMap, piece: Piece, fault: LayFault) {
     let (at, bytes) = piece;
     expect(rt, map.lay(at, bytes), Err(fault));
     expect_runs(rt, map, &[LOW, HIGH, LAST]);
 }
 
-/// Pieces that are refused leave the map as it was.
+/// Pieces that are refused leave the map unchanged.
 #[test]
 fn refused_pieces_change_nothing(rt: HostRuntime) -> Result<(), Fail> {
     let cases: [(Piece, LayFault); 7] = [
@@ -109,7 +109,7 @@ fn refused_pieces_change_nothing(rt: HostRuntime) -> Result<(), Fail> {
     Ok(())
 }
 
-/// Asserts what a map of the three runs lays over cells.
+/// Asserts how a map of the three runs overlays cells.
 fn expect_overlays(rt: &impl Abort, map: &ByteMap) {
     let mut cells = [0x55; 8];
     map.overlay_into(0x11, &mut cells);
@@ -128,7 +128,7 @@ fn overlays_fill_no_hole(rt: HostRuntime) -> Result<(), Fail> {
     Ok(())
 }
 
-/// How many addresses the random test has, the last ones that there are.
+/// How many addresses the random test uses. They are the last ones.
 const COUNT: usize = 64;
 
 const BASE: u32 = 0xFFFF_FFC0;
@@ -138,7 +138,7 @@ fn next_random(seed: u32) -> u32 {
     seed.wrapping_mul(1_664_525).wrapping_add(1_013_904_223)
 }
 
-/// What laying `bytes` from a place on must answer, by a plain list of cells, which it changes.
+/// What a map must answer when `bytes` are put from a place on, by a plain list of cells. The list is changed in the same way.
 fn lay_plainly(cells: &mut [Option<u8>; COUNT], start: u8, bytes: &[u8]) -> Result<(), LayFault> {
     let at = BASE.wrapping_add(u32::from(start));
     let start = usize::from(start);
@@ -159,7 +159,7 @@ fn lay_plainly(cells: &mut [Option<u8>; COUNT], start: u8, bytes: &[u8]) -> Resu
     Ok(())
 }
 
-/// Lays a random piece, which may be past the end or in conflict, and asserts that the plain list answers the same.
+/// Puts a random piece into a map, and asserts that the plain list answers the same. The piece may be past the end or in conflict.
 fn lay_piece(rt: &impl Abort, map: &mut ByteMap, cells: &mut [Option<u8>; COUNT], seed: u32) {
     let start = (seed >> 26) as u8;
     let len = (seed >> 12) as usize % 9;
@@ -175,7 +175,7 @@ fn lay_piece(rt: &impl Abort, map: &mut ByteMap, cells: &mut [Option<u8>; COUNT]
     expect(rt, (seed, laid), (seed, wanted));
 }
 
-/// Lays random pieces into a map and a plain list of cells, asserts that they agree, and answers the last random number.
+/// Puts random pieces into a map and a plain list of cells, and asserts that they agree. Answers the last random number.
 fn lay_pieces(rt: &impl Abort, map: &mut ByteMap, seed: u32) -> u32 {
     let mut seed = seed;
     let mut cells = [None; COUNT];
@@ -187,7 +187,7 @@ fn lay_pieces(rt: &impl Abort, map: &mut ByteMap, seed: u32) -> u32 {
     seed
 }
 
-/// Random pieces, a few of them past the end or in conflict, against a plain list of cells.
+/// Random pieces, a few of them past the end or in conflict, compared with a plain list of cells.
 #[test]
 fn random_pieces_agree_with_a_plain_list(rt: HostRuntime) {
     let mut seed = 7;

@@ -1,4 +1,4 @@
-//! Maps that are made of pieces, and what a map has to be.
+//! Maps that are made of pieces, and assertions about maps.
 
 use crate::expect::expect;
 use byte_map::{ByteMap, LayFault};
@@ -6,10 +6,10 @@ use std::alloc::Global;
 use std::fmt::Debug;
 use std::process::Abort;
 
-/// A piece to lay, or a run that is wanted: an address and bytes.
+/// A piece to put into a map, or a run that is wanted: an address and bytes.
 pub type Piece<'a> = (u32, &'a [u8]);
 
-/// Lays pieces one after the other.
+/// Puts pieces into a map, one after the other.
 fn lay_all(map: &mut ByteMap, pieces: &[Piece]) -> Result<(), LayFault> {
     for (at, bytes) in pieces {
         map.lay(*at, bytes)?;
@@ -42,7 +42,7 @@ pub fn expect_map<F: Debug + Drop>(rt: &impl Abort, read: Result<ByteMap, F>, wa
     }
 }
 
-/// Asserts that a map has so many runs, and these bytes at these addresses.
+/// Asserts that a map has `runs` runs, and these bytes at these addresses.
 fn expect_bytes(rt: &impl Abort, map: &ByteMap, runs: usize, bytes: &[(u32, u8)]) {
     expect(rt, map.runs(), runs);
     for (at, byte) in bytes {
@@ -50,7 +50,7 @@ fn expect_bytes(rt: &impl Abort, map: &ByteMap, runs: usize, bytes: &[(u32, u8)]
     }
 }
 
-/// Asserts that a file is read, and that its map has so many runs, and these bytes at these addresses.
+/// Asserts that a file is read, and that its map has this number of runs, and these bytes at these addresses.
 pub fn expect_read<F: Debug + Drop>(
     rt: &impl Abort,
     read: Result<ByteMap, F>,

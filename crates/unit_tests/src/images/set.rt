@@ -12,7 +12,7 @@ use std::alloc::{AllocError, Global};
 use std::process::Abort;
 use std::test::Fail;
 
-/// What checks of a program's image say, against 32 cells and against 31.
+/// What checks of a program's image answer, against 32 cells and against 31.
 fn checks(read: Result<ByteMap, ImageFault>) -> [Result<(), ImageFault>; 2] {
     match read {
         Ok(map) => [check(&map, 0x0800_0000, 32), check(&map, 0x0800_0000, 31)],
@@ -36,7 +36,7 @@ fn a_program_is_the_same_in_each_form(rt: HostRuntime) {
     }
 }
 
-/// Files that are refused, or whose form is told by the first byte that is no blank.
+/// Files that are refused, or that show their form by the first byte that isn't blank.
 #[test]
 fn forms_are_told_by_the_first_bytes(rt: HostRuntime) {
     let not_record = ImageFault::Hex(HexFault {
@@ -72,7 +72,7 @@ fn merge_text(alloc: Global, map: &mut ByteMap, text: &[u8]) -> Result<(), Image
     merge(alloc, map, image)
 }
 
-/// Asserts that equal bytes are merged into a map of one byte, and another byte in its place isn't.
+/// Asserts that equal bytes are merged into a map of one byte, and that another byte at its address isn't.
 fn expect_merges(rt: &impl Abort, alloc: Global, map: &mut ByteMap) {
     let longer = b"\n:020000040800F2\n:02000000557732\n:00000001FF\n";
     expect(rt, merge_text(alloc, map, longer), Ok(()));
@@ -101,7 +101,7 @@ fn merge_pieces(alloc: Global, map: &mut ByteMap) -> Result<(), ImageFault> {
     merge(alloc, map, pieces)
 }
 
-/// A conflict in a later run, where the earlier runs were free: none of them is added.
+/// A conflict in a later run, where the addresses of the earlier runs were free. None of the runs is added.
 #[test]
 fn a_refused_union_adds_nothing(rt: HostRuntime) -> Result<(), Fail> {
     let mut map = map_of(rt.alloc(), &[(0x10, &[1, 2, 3])])?;
@@ -125,7 +125,7 @@ fn fault_with(alloc: Global, at: usize, word: u32) -> Result<Option<ImageFault>,
     Ok(read_image(alloc, &file, None).err())
 }
 
-/// The ELF file with a word of its second program header changed: what becomes of it.
+/// What becomes of the ELF file with a word of its second program header changed.
 #[test]
 fn each_fault_of_a_segment(rt: HostRuntime) {
     let conflict = ImageFault::Conflict {
@@ -154,7 +154,7 @@ fn each_fault_of_a_segment(rt: HostRuntime) {
     }
 }
 
-/// What a check of a text's image says, against no cell.
+/// What a check of a text's image answers, against no cell.
 fn check_text(alloc: Global, text: &[u8]) -> Result<(), ImageFault> {
     let map = image_of_text(alloc, text)?;
     check(&map, 0, 0)

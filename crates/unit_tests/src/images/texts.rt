@@ -31,7 +31,7 @@ enum Form {
     Srec,
 }
 
-/// Lays 35 bytes from 0x0800FFF0 on, one by one.
+/// Puts 35 bytes from 0x0800FFF0 on into a map, one by one.
 fn fill(map: &mut ByteMap) -> Result<(), LayFault> {
     for index in 0..35_u32 {
         let byte = ((index * 37 + 11) % 256) as u8;
@@ -85,8 +85,8 @@ fn short_texts(rt: HostRuntime) -> Result<(), Fail> {
     Ok(())
 }
 
-/// A text goes out in pieces of up to 4,096 bytes: here 92 rows behind the record of type 04, and then the rest. A put that fails leaves
-/// the pieces before it; one that doesn't leaves a text that is read back.
+/// A text is put in pieces of up to 4,096 bytes: here 92 rows after the record of type 04, and then the rest. After a put that fails the
+/// pieces before it remain. A text without such a put is read back.
 #[test]
 fn each_put_fails_in_turn(rt: HostRuntime) -> Result<(), Fail> {
     let map = map_of(rt.alloc(), &[(0x0800_0000, &[0x5A; 2048])])?;
@@ -94,14 +94,14 @@ fn each_put_fails_in_turn(rt: HostRuntime) -> Result<(), Fail> {
     Ok(())
 }
 
-/// Asserts that the text of a map of one run has 5,660 bytes, what failing puts leave of it, and that it is read back.
+/// Asserts that the text of a map of one run has 5,660 bytes and is read back, and what puts that fail leave of it.
 fn expect_puts(rt: &impl Abort, alloc: Global, map: &ByteMap) {
     let ended = expect_beginnings(rt, alloc, map);
     expect(rt, ended, Ok(()));
     expect(rt, reads_back(alloc, map), Ok(true));
 }
 
-/// Asserts that the map's text has 5,660 bytes, of which a failing put leaves a beginning.
+/// Asserts that the map's text has 5,660 bytes, and that a put that fails leaves a beginning of it.
 fn expect_beginnings(rt: &impl Abort, alloc: Global, map: &ByteMap) -> Result<(), OutOfMemory> {
     let mut whole = MemorySink::new(alloc, 8192, &[])?;
     let put = write_hex(map, &mut whole);

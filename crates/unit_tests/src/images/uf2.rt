@@ -41,7 +41,7 @@ fn file(first: [u8; 512], second: [u8; 512]) -> [u8; 1024] {
     file
 }
 
-/// The payload of a block for main flash, from its address on; of another block nothing. Blocks stand in any order.
+/// The payload of a block for main flash, from its address on, and nothing of another block. Blocks may come in any order.
 #[test]
 fn payloads_for_main_flash(rt: HostRuntime) {
     let four = block(0, 0x0800_0000, 4, FOUR);
@@ -104,7 +104,7 @@ fn byte_of(
     Ok(read_any(alloc, file, raw_at)?.get(at))
 }
 
-/// A file that begins as UF2 is read as it, unless an address is given; all others are read as before.
+/// A file that begins as UF2 is read as UF2, unless an address is given. All other files are read as before.
 #[test]
 fn forms_beside_uf2(rt: HostRuntime) {
     let four = block(0, 0x0800_0000, 4, FOUR);
@@ -122,7 +122,7 @@ fn cut(block: &[u8; 512]) -> &[u8] {
     &block[..511]
 }
 
-/// A fault keeps the name of its form.
+/// A fault names the form of its file.
 #[test]
 fn faults_by_form(rt: HostRuntime) {
     let four = block(0, 0x0800_0000, 4, FOUR);

@@ -10,7 +10,7 @@ use std::alloc::Global;
 use std::process::Abort;
 use std::test::Fail;
 
-// Each file call once, on a file of 3 bytes.
+// Makes each file call once, on a file of 3 bytes.
 fn use_file(bench: &mut MemoryBench, done: &mut usize) -> Result<(), StoreFault>
     requires { length (bench_of bench.old).file ≡ 3 }
 {
@@ -37,7 +37,7 @@ fn each_file_call_goes_and_fails_by_its_number(rt: HostRuntime) -> Result<(), Fa
     Ok(())
 }
 
-// Whether so many of the five calls go through, the next one fails, and the file then is this.
+// Whether `calls` of the five calls go through, the next one fails, and the file is then this one.
 fn file_after(alloc: Global, calls: usize, file: &[u8]) -> Result<[bool; 3], OutOfMemory> {
     let failing = (calls as u64).saturating_add(1);
     let mut bench = MemoryBench::new(alloc, &[], &[1, 2, 3], 4, 9, &[failing], &[], &[])?;
@@ -50,7 +50,7 @@ fn file_after(alloc: Global, calls: usize, file: &[u8]) -> Result<[bool; 3], Out
     ])
 }
 
-// Each cell call, on 4 cells.
+// Makes each cell call, on 4 cells.
 fn use_cells(bench: &mut MemoryBench, done: &mut usize) -> Result<(), DeviceFault>
     requires cells { length (bench_of bench.old).cells ≡ 4 }
     requires idle { (bench_of bench.old).operation ≡ None }
@@ -98,7 +98,7 @@ fn each_cell_call_goes_and_fails_by_its_number(rt: HostRuntime) -> Result<(), Fa
     Ok(())
 }
 
-// Whether so many of the seven calls go through, the next one fails, and the cells then are these.
+// Whether `calls` of the seven calls go through, the next one fails, and the cells are then these.
 fn cells_after(alloc: Global, calls: usize, cells: &[u8]) -> Result<[bool; 3], OutOfMemory> {
     let failing = (calls as u64).saturating_add(1);
     let mut bench = MemoryBench::new(alloc, &[1, 2, 3, 4], &[], 0, 9, &[], &[failing], &[5])?;
@@ -137,7 +137,7 @@ fn expect_room(rt: &impl Abort, bench: &mut MemoryBench)
     expect_all(rt, &calls);
 }
 
-// Leaves a write, a cut and an operation behind.
+// Leaves a write and a cut unsynced, and an operation open.
 fn leave_open(bench: &mut MemoryBench) -> Result<(), BusEnd>
     requires file { length (bench_of bench.old).file ≡ 4 }
     requires cells { length (bench_of bench.old).cells ≡ 3 }
@@ -184,7 +184,7 @@ fn a_stopped_bench_lets_no_call_through(rt: HostRuntime) -> Result<(), Fail> {
     Ok(())
 }
 
-// Whether two calls go through and no later one, and what they left stays.
+// Whether two calls go through and no later one, and whether what they left stays.
 fn stopped(alloc: Global) -> Result<([bool; 4], bool), OutOfMemory> {
     let inner = MemoryBench::new(alloc, &[1], &[1, 2], 4, 9, &[], &[], &[])?;
     let mut bench = StopBench::new(inner, 2);

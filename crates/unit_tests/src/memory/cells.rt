@@ -15,7 +15,7 @@ fn reads_cells(rt: HostRuntime) -> Result<(), Fail> {
     Ok(())
 }
 
-/// Whether cells are read where the first call goes, and aren't where the second one fails.
+/// Whether cells are read where the first call goes through, and not where the second one fails.
 fn read_twice(alloc: Global) -> Result<[bool; 3], OutOfMemory> {
     let mut bench = MemoryBench::new(alloc, &[1, 2, 3, 4], &[], 0, 8, &[], &[2], &[])?;
     let mut found = [0; 2];
@@ -44,7 +44,7 @@ fn finds_no_difference(rt: HostRuntime) -> Result<(), Fail> {
     Ok(())
 }
 
-/// Where the cells 1, 2, 3 and 4, which stand behind another one, first differ from these.
+/// The place where the cells 1, 2, 3 and 4, which come after another cell, first differ from these.
 fn difference_from(
     alloc: Global,
     want: &[u8; 4],

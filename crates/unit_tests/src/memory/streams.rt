@@ -15,20 +15,20 @@ fn a_file_is_taken_in_pieces_and_behind_signals(rt: HostRuntime) -> Result<(), F
     Ok(())
 }
 
-/// What is seen of inputs over such a file.
+/// The answers of inputs over a file that is read a few bytes at a time.
 fn seen_of_image(alloc: Global) -> Result<[bool; 2], OutOfMemory> {
     let mut inputs = SourceInputs::new(alloc, image(alloc)?);
     image_is_taken(&mut inputs, alloc)
 }
 
-/// A file of 70,000 bytes, which is read 999 at a time and behind three signals.
+/// A file of 70,000 bytes that is read 999 at a time, after three reads that a signal interrupts.
 fn image(alloc: Global) -> Result<MemorySource, OutOfMemory> {
     let name = Word::copy(alloc, "image")?;
     let bytes = vec![in alloc; 0x3C; 70_000]?;
     Ok(MemorySource::new(name, bytes, 999, 3))
 }
 
-/// Whether the file is taken whole, and none of another name.
+/// Whether the file is taken whole, and no file with another name.
 fn image_is_taken(
     inputs: &mut SourceInputs<MemorySource>,
     alloc: Global,

@@ -1,5 +1,5 @@
-//! A small board, and a case for each refusal. The values at each key's ends and outside them, and the forms that people
-//! write, are in the data of the crate `program_vectors`.
+//! A small board, and a case for each refusal. The data of the crate `program_vectors` have the values at each key's ends and outside them,
+//! and the forms that people write.
 
 use crate::expect::expect;
 use board_file::{Board, BoardFault, Key, Part, read_board};

@@ -1,10 +1,10 @@
-//! Files that are no jobs. Those that are, and those nearly so, are read by a program of its own.
+//! Files that are no jobs. A separate program reads those that are, and those that are nearly so.
 use crate::expect::expect;
 use faults::OutOfMemory;
 use job_text::{Class, class_of_file};
 use std::alloc::{AllocError, Global};
 
-/// Whether a file is free, and the offset that shows that it is no job.
+/// Whether a file of this class is free, and the offset that shows that it is no job.
 fn shown(class: &Class) -> (bool, Option<u64>) {
     match class {
         Class::Free => (true, None),
@@ -13,7 +13,7 @@ fn shown(class: &Class) -> (bool, Option<u64>) {
     }
 }
 
-/// The same of a file's bytes.
+/// Whether a file with these bytes is free, and the offset that shows that it is no job.
 fn read(alloc: Global, file: &[u8]) -> Result<(bool, Option<u64>), OutOfMemory> {
     let class = class_of_file(alloc, file)?;
     Ok(shown(&class))
@@ -35,7 +35,7 @@ fn an_open_gate_before_no_body_is_no_job(rt: HostRuntime) {
     expect(&rt, longer, Ok((false, Some(1))));
 }
 
-/// A file whose gate is open, with a board's text of fewer than 256 bytes. It ends where the FLM file of one byte would begin.
+/// A file with an open gate, and with a board's text of fewer than 256 bytes. It ends where the FLM file of one byte would begin.
 fn half_a_job(alloc: Global, board: &str) -> Result<Vec<u8>, AllocError> {
     let len = [(board.len() % 256) as u8];
     let parts: [&[u8]; 4] = [
@@ -47,7 +47,7 @@ fn half_a_job(alloc: Global, board: &str) -> Result<Vec<u8>, AllocError> {
     parts.concat(alloc)
 }
 
-/// Whether such a file is free, and the offset that shows that it is no job.
+/// Whether a file that ends after a board's text is free, and the offset that shows that it is no job.
 fn read_half(alloc: Global, board: &str) -> Result<(bool, Option<u64>), OutOfMemory> {
     let file = half_a_job(alloc, board)?;
     read(alloc, &file)

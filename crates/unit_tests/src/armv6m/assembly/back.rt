@@ -1,4 +1,4 @@
-//! What the disassembler writes of an instruction is assembled to its code again.
+//! The disassembler's text of an instruction assembles to the instruction's code again.
 
 use crate::armv6m::encoding::{assert_read_back, code_of};
 use crate::expect::expect;
@@ -10,8 +10,8 @@ use std::alloc::Global;
 use std::process::Abort;
 use std::test::Fail;
 
-/// Another instruction is made of the instruction's text, or none: `CMP` of two low registers in its second encoding, an
-/// empty list, and an operand of `UDF` and `SVC`, which isn't written. The manual leaves open what they do.
+/// Whether the text of an instruction makes another one, or none. These are `CMP` of two low registers in its second encoding, an empty
+/// list, and an operand of `UDF` and `SVC`, which isn't written. The manual leaves open what they do.
 fn is_open(instr: &Instr) -> bool {
     match *instr {
         Instr::Alu(Alu::CmpHigh { n, m }) => n < 8 && m < 8,
@@ -23,7 +23,7 @@ fn is_open(instr: &Instr) -> bool {
     }
 }
 
-/// The text of an instruction at address 0 assembles to these bytes.
+/// Asserts that the text of an instruction at address 0 assembles to these bytes.
 fn assert_back(rt: &impl Abort, alloc: Global, instr: &Instr, due: &[u8]) -> Result<(), Fail> {
     let mut line = Line::new();
     disassemble(instr, 0, &mut line);
@@ -48,7 +48,7 @@ fn each_halfword_comes_back(rt: HostRuntime) -> Result<(), Fail> {
     Ok(())
 }
 
-/// The text of a pair's instruction assembles to the pair.
+/// Asserts that the text of an instruction of two halfwords assembles to them.
 fn assert_pair_back(rt: &impl Abort, alloc: Global, instr: &Instr) -> Result<(), Fail> {
     assert_read_back(rt, instr);
     if let Some(Encoding::Pair { first, second }) = code_of(instr) {
@@ -59,7 +59,7 @@ fn assert_pair_back(rt: &impl Abort, alloc: Global, instr: &Instr) -> Result<(),
     Ok(())
 }
 
-/// The ends of BL's range, and every 2,053th distance between.
+/// The ends of BL's range, and every 2,053rd distance between them.
 #[test]
 fn long_branches_come_back(rt: HostRuntime) -> Result<(), Fail> {
     for immediate in [0, 1, 0x7F_FFFF, 0x80_0000, 0xFF_FFFE, 0xFF_FFFF] {
@@ -72,7 +72,7 @@ fn long_branches_come_back(rt: HostRuntime) -> Result<(), Fail> {
     Ok(())
 }
 
-/// The texts of both instructions on a special register.
+/// Asserts the texts of both instructions on a special register.
 fn assert_special(rt: &impl Abort, alloc: Global, register: u8, special: u8) -> Result<(), Fail> {
     let read = Other::Mrs {
         d: register,
@@ -86,7 +86,7 @@ fn assert_special(rt: &impl Abort, alloc: Global, register: u8, special: u8) -> 
     assert_pair_back(rt, alloc, &Instr::Other(write))
 }
 
-/// The texts of all instructions on the special registers, with a register.
+/// Asserts the texts of all instructions on the special registers, with a register.
 fn assert_all_special(rt: &impl Abort, alloc: Global, register: u8) -> Result<(), Fail> {
     for special in [APSR, MSP, PRIMASK] {
         assert_special(rt, alloc, register, special)?;
@@ -94,7 +94,7 @@ fn assert_all_special(rt: &impl Abort, alloc: Global, register: u8) -> Result<()
     Ok(())
 }
 
-/// The texts of the barriers.
+/// Asserts the texts of the barriers.
 fn assert_barriers(rt: &impl Abort, alloc: Global) -> Result<(), Fail> {
     for barrier in [Other::Dsb, Other::Dmb, Other::Isb] {
         assert_pair_back(rt, alloc, &Instr::Other(barrier))?;

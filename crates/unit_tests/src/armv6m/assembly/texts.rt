@@ -17,7 +17,7 @@ pub fn algorithm() -> &'static [u8] {
     .align\nbase: .word 0x40022000\nkey1: .word 0x45670123\nkey2: .word 0xCDEF89AB\n"
 }
 
-/// Its code.
+/// The code of the flash algorithm.
 pub fn algorithm_code() -> &'static [u8] {
     b"\
     \x20\x4B\x21\x49\x19\x60\x21\x49\x19\x60\x00\x20\x70\x47\x1D\x4B\x00\x20\x18\x60\x70\x47\x03\x22\

@@ -1,4 +1,4 @@
-//! Instructions that end otherwise than by going on: each leaves every register and flag as it was.
+//! Instructions after which the core doesn't go on. Each of them leaves every register and flag unchanged.
 
 use super::{BASE, HERE, assert_step, assert_stores, bus_with, core_at};
 use crate::expect::expect;
@@ -8,7 +8,7 @@ use armv6m_step::{Core, MemoryBus, step};
 use std::alloc::AllocError;
 use std::process::Abort;
 
-/// LDR R0, [R1, #0] at 0x20000102, and the same of 0x10000000; ADD PC, PC.
+/// LDR R0, [R1, #0] at 0x20000102, and at 0x10000000; ADD PC, PC.
 #[test]
 fn nothing_is_written(rt: HostRuntime) -> Result<(), AllocError> {
     for (code, r1, end) in [
@@ -24,7 +24,7 @@ fn nothing_is_written(rt: HostRuntime) -> Result<(), AllocError> {
     Ok(())
 }
 
-/// Stores before a fault stand: PUSH {R2, R3, LR} with its second word past the memory.
+/// Stores before a fault remain: PUSH {R2, R3, LR} with its second word past the memory.
 #[test]
 fn stores_before_a_fault_stand(rt: HostRuntime) -> Result<(), AllocError> {
     let mut core = core_at(HERE);
@@ -34,13 +34,13 @@ fn stores_before_a_fault_stand(rt: HostRuntime) -> Result<(), AllocError> {
     assert_stores(&rt, rt.alloc(), 0xB50C, core, due, 0x3FC, &[1, 2, 3, 4])
 }
 
-/// A step at an address ends so.
+/// Asserts how a step at an address ends.
 fn assert_end(rt: &impl Abort, core: &mut Core, bus: &mut MemoryBus, pc: u32, due: StepEnd) {
     core.regs[PC as usize] = pc;
     expect(rt, &step(core, bus), &due);
 }
 
-/// A fetch at an odd address, and one whose second halfword is past the memory.
+/// A fetch at an odd address, and one with its second halfword past the memory.
 #[test]
 fn fetches(rt: HostRuntime) -> Result<(), AllocError> {
     let mut core = core_at(HERE);

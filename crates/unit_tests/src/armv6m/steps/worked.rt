@@ -1,4 +1,4 @@
-//! Examples that are worked out by hand.
+//! Examples that were worked out by hand.
 
 use super::{BASE, HERE, assert_step, assert_stores, core_at};
 use armv6m_decode::registers::{LR, PC, SP};

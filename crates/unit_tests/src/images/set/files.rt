@@ -1,5 +1,5 @@
-//! A program in four forms, which `arm-none-eabi-gcc -mcpu=cortex-m0 -mthumb -Os` and `arm-none-eabi-objcopy` made. Its
-//! second segment is loaded behind the first one, runs in the RAM, and is longer there.
+//! A program in four forms, which `arm-none-eabi-gcc -mcpu=cortex-m0 -mthumb -Os` and `arm-none-eabi-objcopy` made. Its second segment is
+//! loaded after the first one, runs in the RAM, and is longer there.
 
 /// The ELF file.
 pub fn elf() -> &'static [u8] {
