@@ -141,7 +141,7 @@ pub fn rotate_right(value: u32, amount: u32, carry: bool) -> Shifted
     }
 }
 
-/// A number of so many bits, the highest of which is its sign, extended to 32 bits: the manual's `SignExtend()`.
+/// A number of `bits` bits, the highest of them the sign, extended to 32 bits: the manual's `SignExtend()`.
 #[inline(always)]
 #[tactic(auto, using(crate::proofs::PowerLemmas::powers, std::proofs::lemmas::Bool::Decides::nat_tests))]
 pub fn sign_extend(value: u32, bits: u32) -> u32

@@ -10,7 +10,7 @@ pc_read at = (at + 4) % 2 ^ 32
 abbrev pub literal_target : ℕ → ℕ → ℕ
 literal_target at immediate = (pc_read at / 4 * 4 + 4 * immediate) % 2 ^ 32
 
--- twice an immediate of so many bits, which is read as signed, in 32 bits: the manual's SignExtend(imm:'0', 32)
+-- twice a signed immediate of `bits` bits, as a number of 32 bits: the manual's SignExtend(imm:'0', 32)
 abbrev pub signed_offset : ℕ → ℕ → ℕ
 signed_offset bits immediate = sign_extended (bits + 1) (2 * immediate)
 

@@ -9,7 +9,7 @@ use Rattle.armv6m_decode.specs.declared.instr.Instr.TheVariants as instr
 use Rattle.armv6m_decode.specs.declared.instr.Many.TheVariants.{Push, Pop, Stm, Ldm}
 use Rattle.armv6m_forms.specs.Text.{list_text}
 
--- a list that has room behind a mnemonic and a base: that of R0 to R7, LR and PC has 40 bytes
+-- a list of registers that leaves room for a mnemonic and a base before it: the list of R0 to R7, LR and PC has 40 bytes
 abbrev pub IsShort : ℕ → Type 0
 IsShort list = length (list_text list) ≤ 40
 

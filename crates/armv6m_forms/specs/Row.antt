@@ -10,7 +10,7 @@ use Rattle.armv6m_forms.specs.Form.{StandsFor, HasNoInstruction}
 abbrev pub IsReadAs : Form → Option Instr → Type 0
 IsReadAs form result = MatchOption result ((at : ℕ) → HasNoInstruction at form) (λ instr. (at : ℕ) → StandsFor instr at form)
 
--- the same of a form with a target, at an address
+-- the instruction that stands at an address for a form with a target, or none if no instruction does
 abbrev pub IsReadAt : ℕ → Form → Option Instr → Type 0
 IsReadAt at form result = MatchOption result (HasNoInstruction at form) (λ instr. StandsFor instr at form)
 

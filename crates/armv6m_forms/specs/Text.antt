@@ -1,4 +1,4 @@
--- The text of a form, as the manual's assembler syntax has it (A6.7), with a blank behind the mnemonic and behind each comma.
+-- The text of a form in the manual's assembler syntax (A6.7), with a blank after the mnemonic and after each comma.
 use Rattle.std.specs.Prelude.{◌≡◌, ◌⊎◌, ℕ, List, [], ◌++◌, codes, decimal, nat_eq, if◌then◌else◌}
 use Rattle.std.specs.List.{filter, range_with_len, join_by}
 use Rattle.octets.specs.Digit.{hex_text}

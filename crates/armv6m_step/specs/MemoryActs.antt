@@ -1,4 +1,4 @@
--- The test of a bus of bytes in memory. No device is behind it, so none fails.
+-- What a bus of bytes in memory does at an access. It has no device, so no access ends by a device fault.
 use Rattle.std.specs.Prelude.{◌≡◌, ℕ, false, Option, Some, None, Result, List}
 use Rattle.std.proofs.Common.{arith, refl, ap, ◌∙◌}
 use Rattle.bench_model.specs.declared.bench_fault.BusEnd.{BusEnd}

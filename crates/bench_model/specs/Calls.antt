@@ -29,7 +29,7 @@ pub record Shortened (n : ℕ) (old new : List ℕ) : Type 0 where
 abbrev pub Follows : (List ℕ → List ℕ → Type 0) → Half → List ℕ → Type 0
 Follows step old new = (before : List ℕ) × left old before × step before new
 
--- an operation on so many cells is open
+-- an operation on `n` cells is open
 abbrev pub IsOpen : ℕ → Option (ℕ × ℕ) → Type 0
 IsOpen n None = ⊥
 IsOpen n (Some range) = range.1 ≡ n
@@ -60,7 +60,7 @@ pub record FileIsRead (tells : Bool) (old new : BenchState) : Type 0 where
   pub file : IsTrue tells → new.file ≡ old.file
   pub moments : AddsNothing (file_half old) (file_half new)
 
--- The cells are only read: they and the open operation are as told before, and a stop leaves no cells that one before might not have left.
+-- The cells are only read. They and the open operation stay, and a stop leaves no cells that it might not have left before.
 pub record CellsAreRead (tells : Bool) (old new : BenchState) : Type 0 where
   pub cells : IsTrue tells → new.cells ≡ old.cells
   pub operation : IsTrue tells → new.operation ≡ old.operation

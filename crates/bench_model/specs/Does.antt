@@ -78,7 +78,7 @@ pub record StaysOpen (old new : BenchState) : Type 0 where
   pub operation : new.operation ≡ old.operation
   pub cells : new.cells ≡ old.cells
 
--- the operation ended with bytes in its range, told by its length
+-- the operation ended with bytes in its range, which are a function of the range's length
 pub record IsSettled (bytes : ℕ → List ℕ) (old new : BenchState) : Type 0 where
   pub operation : new.operation ≡ None
   pub cells : IfSome old.operation (λ range. new.cells ≡ written range.0 (bytes range.1) old.cells)

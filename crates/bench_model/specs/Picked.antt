@@ -11,7 +11,7 @@ IsPickedFile AsWritten k old new = new ≡ old
 IsPickedFile AsOld k old new = new ≡ k.synced
 IsPickedFile (Filled value) k old new = IsFilled value k new
 
--- the cells as told, or with one value in the range of the open operation
+-- the cells as they are, or with one value throughout the range of the open operation
 abbrev pub picked_cells : Pick → Option (ℕ × ℕ) → List ℕ → List ℕ
 picked_cells AsWritten operation cells = cells
 picked_cells AsOld operation cells = cells

@@ -30,7 +30,7 @@ pub record Held : Type 0 where
   pub cells : List ℕ
   pub operation : Option (ℕ × ℕ)
 
--- a bench of which nothing is pending and no operation is open
+-- a bench where nothing is pending and no operation is open
 abbrev pub at_rest : List ℕ → List ℕ → Held
 at_rest file cells = record { kept = all_synced file; cells = cells; operation = None }
 
@@ -77,7 +77,7 @@ held_at k r = replay (take k r.events) r.made
 abbrev pub noted : Event → Recorded → Recorded
 noted e r = record r { events = r.events ++ e ∷ []; used = r.used + (1 + handed_of e) }
 
--- there is room for a call that is handed so many bytes
+-- there is room for a call that gets `bytes` bytes
 abbrev pub HasRoom : ℕ → Recorded → Type 0
 HasRoom bytes r = r.used + (1 + bytes) ≤ r.room
 

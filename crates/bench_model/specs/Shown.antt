@@ -39,7 +39,7 @@ shown m = record {
 abbrev pub bench_of : MemoryBench → BenchState
 bench_of m = memory_state m.file.items m.cells.items m.operation m.store.faults m.device.faults m.history
 
--- as it is made
+-- a bench in memory when it is made
 abbrev pub made_bench : (cells file : List ℕ) (file_room call_room : ℕ) (store_fails device_fails garbage : List ℕ) → Memory
 made_bench cells file file_room call_room store_fails device_fails garbage = record {
   file = file;
@@ -64,7 +64,7 @@ store_failed m = record m { store = failed m.store }
 abbrev pub stored : Event → List ℕ → Memory → Memory
 stored e file m = record m { file = file; history = noted e m.history; store = went m.store }
 
--- the same of cell calls, with the cells and the open operation after it
+-- a cell call that went through and changed nothing
 abbrev pub device_went : Memory → Memory
 device_went m = record m { device = went m.device }
 

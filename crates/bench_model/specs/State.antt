@@ -8,7 +8,7 @@ pub record BenchState : Type 1 where
   -- the cells of the device, and the range (place, length) of the open cell operation
   pub cells : List ℕ
   pub operation : Option (ℕ × ℕ)
-  -- the number of cells, which never changes, also where the cells aren't told
+  -- the number of cells, which never changes; it is known even where the cells aren't
   pub cell_count : ℕ
   -- how many faults of the store and of the device were counted
   pub store_faults : ℕ
@@ -32,7 +32,7 @@ Left b file cells = b.files_at b.moment file × b.cells_at b.moment cells
 abbrev pub LeftSince : BenchState → ℕ → List ℕ → List ℕ → Type 0
 LeftSince b since file cells = (k : ℕ) × (since ≤ k) × (k ≤ b.moment) × b.files_at k file × b.cells_at k cells
 
--- the same list outside the range of an operation, where any bytes may stand
+-- two lists are equal outside the range of an operation, where any bytes may be
 abbrev pub SameOutside : Option (ℕ × ℕ) → List ℕ → List ℕ → Type 0
 SameOutside None old new = new ≡ old
 SameOutside (Some range) old new = (length new ≡ length old)

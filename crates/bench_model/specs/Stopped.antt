@@ -47,7 +47,7 @@ pub record StopActs {B : Type 0} (acts : B → Act → B → Type 0) (before : S
   pub passes : 0 < before.calls → Passes acts before act after
   pub stops : before.calls ≡ 0 → Refuses before act after
 
--- the same contents, moments and what a stop leaves
+-- two benches have the same contents and moments, and a stop leaves the same
 pub record IsSameButFaults (a b : BenchState) : Type 0 where
   pub file : b.file ≡ a.file
   pub cells : b.cells ≡ a.cells

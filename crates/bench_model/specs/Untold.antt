@@ -3,7 +3,7 @@ use Rattle.std.specs.Prelude.{IsTrue, false, ℕ, [], None}
 use Rattle.std.proofs.lemmas.Bool.{false≢true}
 use Rattle.bench_model.specs.State.{BenchState}
 
--- the number of cells and the counts of faults are told, and nothing else: what a stop leaves isn't claimed
+-- only the number of cells and the counts of faults are known: nothing is said of what a stop leaves
 abbrev pub untold_state : (cell_count store_faults device_faults : ℕ) → BenchState
 untold_state cell_count store_faults device_faults = record {
   file = [];

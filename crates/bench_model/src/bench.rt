@@ -95,7 +95,7 @@ pub trait Bench {
     /// The file as read is among those that a stop may leave.
     ghost as_read: { (bench : Self) → IsTrue tells → left (file_half (state bench)) (state bench).file };
 
-    /// A stop leaves the cells as told, with any bytes in the range of an open operation, and any such cells.
+    /// A stop may leave exactly those cells that differ from the bench's at most in the range of an open operation.
     ghost as_told: { (bench : Self) (cells : List ℕ) → IsTrue tells
         → left (cells_half (state bench)) cells ↔ SameOutside (state bench).operation (state bench).cells cells };
 
@@ -105,7 +105,7 @@ pub trait Bench {
     /// The file is a list of bytes, and so are the cells.
     ghost bytes: { (bench : Self) → IsTrue tells → All (λ byte. byte < 256) (state bench).file × All (λ byte. byte < 256) (state bench).cells };
 
-    /// There are fewer cells than 2^32, also where they aren't told.
+    /// There are fewer cells than 2^32, even where the cells aren't known.
     ghost few: { (bench : Self) → (state bench).cell_count < 2 ^ 32 };
 
     /// An open operation has at least one cell, and lies in the cells.

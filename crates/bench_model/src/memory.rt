@@ -44,7 +44,7 @@ impl MemoryBench {
     ghost use Rattle.bench_model.specs.Loss.{IsAtRest, IsPicked, after_loss};
     ghost use Rattle.bench_model.specs.State.{Left};
 
-    /// A bench with these cells and this file, of which nothing is pending. It takes all memory that it ever needs.
+    /// A bench with these cells and this file, where nothing is pending. It takes all memory that it ever needs.
     ///
     /// `file_room` is the longest file, in bytes, that a write may give. `call_room` is the room for recorded calls in
     /// units: each takes one unit, and one more for each byte of the slice that it is handed. `store_fails` and

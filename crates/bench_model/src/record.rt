@@ -87,7 +87,7 @@ fn mark_from(marks: &mut Vec<bool>, from: usize)
 }
 
 impl Record {
-    /// An empty record of a bench at rest, with room for so many units and for files of this length.
+    /// An empty record of a bench at rest, with room for `room` units and for files of this length.
     pub(crate) fn new(
         alloc: Global,
         file: &[u8],
@@ -117,7 +117,7 @@ impl Record {
         })
     }
 
-    /// Whether there is room for a call that is handed so many bytes.
+    /// Whether there is room for a call that gets this number of bytes.
     pub(crate) fn has_room(&self, bytes: usize) -> bool
         ensures { IsTrue result ↔ HasRoom bytes self.now }
     {
@@ -198,7 +198,7 @@ fn put_clear(file: &mut [u8], marks: &[bool], bytes: &[u8], value: u8)
     }
 }
 
-/// Nothing of so many bytes is pending.
+/// Makes a list of `len` marks with nothing pending.
 fn unmark(marks: &mut Vec<bool>, len: usize)
     requires { len ≤ vec_capacity marks.old }
     ensures items { marks.new.items ≡ replicate len false }

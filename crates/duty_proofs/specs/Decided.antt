@@ -30,7 +30,7 @@ pub record State : Type 0 where
   pub marks : TargetMarks
   pub world : World
 
--- its marks have no names and say nothing of the cells, and no operation is open
+-- the marks of a state between calls have no names and say nothing of the cells, and no operation is open
 pub record IsBetween (st : State) : Type 0 where
   pub idle : st.marks.state.operation ≡ None
   pub plain : (k : ℕ) → is_known (slice_index_or st.marks.ram k Any) ≡ false → slice_index_or st.marks.ram k Any ≡ Any

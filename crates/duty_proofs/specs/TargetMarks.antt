@@ -55,7 +55,7 @@ abbrev pub with_address : AnyRegisters → ℕ → AnyRegisters
 with_address (Fc1 r) x = Fc1 (record r { address = x })
 with_address (Fpec r) x = Fpec (record r { address = x })
 
--- the same registers, but perhaps for the address
+-- two sets of registers are equal, or differ only in the address register
 abbrev pub Alike : Bool → AnyRegisters → AnyRegisters → Type 0
 Alike true r r' = r' ≡ r
 Alike false r r' = (x : ℕ) × (r' ≡ with_address r x)
@@ -142,7 +142,7 @@ starts_sector v = has_bit v 64 && (has_bit v 2 && not (has_bit v 4))
 abbrev pub spares_address : ℕ → ℕ → Bool
 spares_address offset v = (nat_eq offset 0x04 || nat_eq offset 0x0C) || (nat_eq offset 0x10 && not (starts_sector v))
 
--- and one to KEY, STATUS and CMD of FC1, and to START where CMD isn't that of a sector's erasure
+-- a store that doesn't look at the address register of FC1: to KEY, STATUS, CMD, and to START unless CMD is a sector erase
 abbrev pub fc1_spares : Fc1State → ℕ → Bool
 fc1_spares r offset = (nat_eq offset 0 || nat_eq offset 4) || (nat_eq offset 8 || (nat_eq offset 16 && not (nat_eq r.command 2)))
 

@@ -217,7 +217,7 @@ impl<'a> Marked<'a> {
         }
     }
 
-    /// The same where the address register isn't known.
+    /// A store of a known number to a register, where the address register isn't known.
     fn unaddressed(&mut self, offset: u32, value: u32) -> bool
         ensures { unaddressed (marks_in self.old) offset value ≡ (if result then Some (marks_in self.new) else None) }
     {

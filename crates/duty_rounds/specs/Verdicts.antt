@@ -21,8 +21,8 @@ pub record AreFit (b : BoardShown) (algorithms : List AlgorithmShown) : Type 0 w
 
 -- ---- one algorithm
 
--- In a list of such works a call isn't kept: with some set of sectors or pages, over some contents, and behind what the ideal device leaves up to
--- the call.
+-- In a list of such works a call isn't kept, for some set of sectors or pages and some contents. Up to that call the device holds what the
+-- ideal device leaves.
 pub record Breaks (b : BoardShown) (a : AlgorithmShown) (region : ℕ) (work : Work) (turn : Turn) : Type 0 where
   pub set : List Bool
   pub before : List ℕ
@@ -48,7 +48,7 @@ Says b a region (verdict.Broken broken) = IsBreach b a region broken
 
 -- ---- several
 
--- the verdict of algorithms none of which broke a duty, and of one more
+-- the verdict of several algorithms together, from that of the ones before and that of one more
 abbrev pub beside : Verdict → Verdict → Verdict
 beside verdict.Proved own = own
 beside verdict.Tried verdict.Proved = verdict.Tried

@@ -7,7 +7,7 @@ use duty_trials::{Subject, Work, mix};
 use faults::OutOfMemory;
 use std::alloc::Global;
 
-/// Where there are at most so many all are chosen.
+/// Up to this number of sectors or pages, all are chosen.
 const ALL_UP_TO: u32 = 64;
 
 /// How many are chosen at random besides.

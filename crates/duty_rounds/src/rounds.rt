@@ -25,9 +25,9 @@ pub struct Rounds {
     pub rounds: u32,
 }
 
-/// Who is told how far the trials have come.
+/// Gets reports of how far the trials have come.
 pub trait Progress {
-    /// One list more was tried, which made so many calls.
+    /// One list more was tried, with this number of calls.
     fn tried(&mut self, calls: u64);
 }
 
@@ -114,8 +114,8 @@ fn judge_one<P: Progress>(
     Ok(trials)
 }
 
-/// What is known of the algorithms of a board, one for each of its regions, once rounds of lists were tried of each up to the first breach. A bench
-/// whose record has no room for a call's operations is want of memory.
+/// What is known of the algorithms of a board, one for each region, after rounds of lists were tried of each up to the first breach. A
+/// bench with no room to record a call's operations counts as out of memory.
 pub fn judge<P: Progress>(
     alloc: Global,
     board: &Board,

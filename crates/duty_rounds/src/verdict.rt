@@ -13,7 +13,7 @@ pub struct Difference {
 }
 
 /// A breach: the region of the board, the list, the seed of its contents and bytes, the call, how it broke, and the first cell that differs
-/// behind it.
+/// after the call.
 #[derive(Clone, Copy)]
 pub struct Broken {
     pub region: usize,
@@ -60,7 +60,7 @@ impl Verdict {
         matches!(self, Verdict::Broken(_))
     }
 
-    /// What is known of algorithms none of which broke a duty, and of one more.
+    /// The verdict of several algorithms together, from that of the ones before and that of one more.
     pub(crate) fn beside(self, other: Verdict) -> Verdict
         ensures { result ≡ beside self other }
     {

@@ -8,7 +8,7 @@ use Rattle.duty_proofs.specs.TargetMarks.{TargetMarks}
 use Rattle.duty_proofs.specs.Decided.{State}
 use Rattle.duty_runs.specs.declared.between.Between.{Between}
 
--- its marks, where the RAM lies from a base on and the flash by this map
+-- the marks of a target between two calls, with the RAM from `base` on and this flash map
 abbrev pub state_marks : ℕ → FlashMap → Between → TargetMarks
 state_marks base layout b = record {
   base = base;

@@ -21,8 +21,8 @@ pub record OnlyBetween (from to : ℕ) (old new : List ℕ) : Type 0 where
   pub long : length new ≡ length old
   pub same : (i : ℕ) → (i < from) ⊎ (to ≤ i) → slice_index new i ≡ slice_index old i
 
--- The trial of a call whose duty is `d`: the ideal device leads from the one contents to the other. Where it broke, the duty isn't kept; where
--- it was kept, the target stands behind the call, over the cells that the ideal device leaves.
+-- The trial of a call with the duty `d`. The ideal device leads from the first contents to the second. If the trial shows a breach, the
+-- duty isn't kept. If the duty was kept, the target has made the call, over the cells that the ideal device leaves.
 pub record TriesCall (s : Setup) (site : Site) (d : Duty) (ideal ideal' : List ℕ) (w w' : World) (operation : Option (ℕ × ℕ)) (result : Tried) : Type 0 where
   pub does : Does s site ideal d ideal'
   pub broken : IsBroken result → Keeps s site w d → ⊥

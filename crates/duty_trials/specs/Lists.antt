@@ -29,21 +29,21 @@ HasFunction e work.Chip = IsSome e.erase_chip
 HasFunction e work.Pages = Unit {0}
 HasFunction e work.Checks = IsSome e.verify
 
--- what Init and UnInit are told
+-- the number that Init and UnInit get as their function code
 abbrev pub kind_in : Work → ℕ
 kind_in work.Sectors = 1
 kind_in work.Chip = 1
 kind_in work.Pages = 2
 kind_in work.Checks = 3
 
--- the phase: with the cells of the device as they are to be behind it
+-- the phase of a work, where `held` is the contents that the device is to have after it
 abbrev pub phase_of : Work → List Bool → List ℕ → Phase
 phase_of work.Sectors set held = Erases set
 phase_of work.Chip set held = ErasesChip
 phase_of work.Pages set held = Programs set held
 phase_of work.Checks set held = Verifies set
 
--- the work on one sector or page, with the cells of the device as they are to be behind it
+-- the duty of a work on one sector or page, where `held` is the contents that the device is to have after it
 abbrev pub work_on : Setup → Geometry → Work → List ℕ → ℕ → Duty
 work_on s l work.Sectors held k = Acting (act.EraseSector k)
 work_on s l work.Chip held k = Acting act.EraseChip

@@ -10,7 +10,7 @@ use Rattle.algo_calls.specs.Setups.{Setup, setup_of}
 use Rattle.algo_calls.specs.Frames.{after}
 use Rattle.algo_calls.specs.Duties.{Site, Duty, Phase, Keeps, AreReady, MayAsk, part, request_of, works_of, duties_of, device_of, site_of, ready}
 
--- the target behind the calls of these duties
+-- the target after the calls of these duties
 abbrev pub world_after : Setup → Site → World → List Duty → World
 world_after s site w [] = w
 world_after s site w (d ∷ rest) = world_after s site (after s w (request_of s site.layout d)) rest
@@ -23,8 +23,8 @@ pub record IsAsked (b : BoardShown) (a : AlgorithmShown) (region : ℕ) (cells :
   pub some : works_of (setup_of a b) (device_of a) (part (site_of b a region) cells) phase ≡ [] → ⊥
   pub ready : AreReady (setup_of a b) (site_of b a region) cells (works_of (setup_of a b) (device_of a) (part (site_of b a region) cells) phase)
 
--- A call of such a list that isn't kept: those before it, the duty, and those behind it. At its turn the target stands as the calls before it
--- left it, whatever those did.
+-- A call of such a list that isn't kept: the duties before it, its duty, and the duties after it. The target has then made the calls before
+-- it, whatever those did.
 pub record BreaksIn (b : BoardShown) (a : AlgorithmShown) (region : ℕ) (cells : List ℕ) (phase : Phase) (before : List Duty) (d : Duty) : Type 0 where
   pub asked : IsAsked b a region cells phase
   pub behind : List Duty

@@ -12,11 +12,11 @@ pub record WasOpen (range : ℕ × ℕ) (h : Half) : Type 0 where
   pub within : range.0 + range.1 ≤ length cells
   pub may : (x : List ℕ) → SameOutside (Some range) cells x → h.at moment x
 
--- so it was, where one was kept
+-- the operation that was seen outside, if one was, was open at some moment
 pub record Was (outside : Option (ℕ × ℕ)) (h : Half) : Type 0 where
   pub was : (range : ℕ × ℕ) → outside ≡ Some range → WasOpen range h
 
--- the same as a proposition, which a ghost field has to be
+-- an operation was seen outside, said as a proposition: a ghost field has to be one
 abbrev pub IsSeen : Option (ℕ × ℕ) → Half → Type 0
 IsSeen outside h = (Was outside h → ⊥) → ⊥
 

@@ -17,7 +17,7 @@ pub enum PageBytes {
     Last,
 }
 
-/// The bytes of pages, of which the random ones come of a seed, and the value of an empty cell.
+/// What pages are filled with: the bytes of pages, the seed of random bytes, and the value of an empty cell.
 #[derive(Clone, Copy)]
 pub struct Filling {
     pub bytes: PageBytes,
@@ -51,7 +51,7 @@ pub fn fill(cells: &mut [u8], from: u32, to: u32, value: u8)
 }
 
 impl Filling {
-    /// The byte at a place of a page of so many bytes, which begins at a place of all cells.
+    /// A byte of a page of `len` bytes, by its place in the page and the page's place among all cells.
     fn byte_at(&self, page: u32, place: u32, len: u32) -> u8 {
         match self.bytes {
             PageBytes::Random => random_byte(self.seed, u64::from(page) + u64::from(place)),

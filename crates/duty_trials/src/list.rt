@@ -41,7 +41,7 @@ pub enum Ended {
 impl Work {
     ghost use Rattle.duty_trials.specs.Lists.{kind_in};
 
-    /// What Init and UnInit are told.
+    /// The number that Init and UnInit get as their function code.
     pub fn kind(self) -> u32
         ensures { result ≡ kind_in self }
     {

@@ -38,13 +38,13 @@ pub enum Breach {
         /// How it ended.
         end: CallEnd,
     },
-    /// A cell differs behind it from the one that the ideal device leaves.
+    /// After the call a cell differs from the one that the ideal device leaves.
     Cell,
     /// It left an operation open.
     LeftOpen,
     /// An operation didn't lie in its place.
     Outside {
-        /// Its first cell.
+        /// The first cell of the operation.
         at: u32,
         /// How many cells it covers.
         len: u32,

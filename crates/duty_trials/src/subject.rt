@@ -39,7 +39,7 @@ pub struct Subject<'a> {
     pub ghost within: { start + algorithm.now.device.size ≤ cells },
 }
 
-/// A sector, a page or the whole device: the address of its first byte, and its first place among all cells and the one behind its last.
+/// A sector, a page or the whole device: the address of its first byte, its first place among all cells, and the place after its last.
 #[derive(Clone, Copy)]
 pub struct Span {
     pub address: u32,
@@ -47,7 +47,7 @@ pub struct Span {
     pub to: u32,
 }
 
-/// How many cells the first regions have together, which are so many.
+/// How many cells the first `count` regions have together.
 fn cells_before(regions: &[Region], count: usize) -> u32
     requires few { cells_in (areas_of regions.now) < 2 ^ 32 }
     requires inside { count ≤ length regions.now }
@@ -123,7 +123,7 @@ impl<'a> Subject<'a> {
         self.span(0, self.geometry.size())
     }
 
-    /// So many places of the device from one on.
+    /// `len` places of the device from `at` on.
     fn span(&self, at: u32, len: u32) -> Span
         requires some { 0 < len }
         requires within { at + len ≤ (site_in self.now).layout.size }

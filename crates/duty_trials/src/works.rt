@@ -171,10 +171,11 @@ impl Stand {
         }
     }
 
-    /// Makes the calls of a list: Init, one for each member of the set in rising order, and UnInit, up to the first that breaks its duty. What
-    /// the ideal device leaves behind the last of them is put to `ideal`, which are the cells before. Pages to be programmed are empty.
+    /// Makes the calls of a list up to the first that breaks its duty: Init, one call for each member of the set in rising order, and
+    /// UnInit. `ideal` is the cells before the list; then it is what the ideal device leaves after the last call. Pages to be programmed
+    /// are empty.
     ///
-    /// Where a set has no member there is no such list, and no call is made.
+    /// A set without members has no such list, and no call is made.
     pub fn try_list(
         &mut self,
         subject: &Subject<'_>,

@@ -1,4 +1,4 @@
--- Little-endian fields, one behind the other (System V ABI, chapter 4, "Data Representation").
+-- Little-endian fields, one after the other (System V ABI, chapter 4, "Data Representation").
 use Rattle.std.specs.Prelude.{ℕ, List}
 use Rattle.std.specs.List.{flat_map}
 use Rattle.std.specs.Int.{w16, w32, to_le_bytes}

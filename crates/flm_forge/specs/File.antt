@@ -1,4 +1,4 @@
--- An FLM file as it is made: the bytes of its parts, one behind the other.
+-- The bytes of a made FLM file: the bytes of its parts, one after the other.
 use Rattle.std.specs.Prelude.{ℕ, ◌+◌, ◌*◌, List, ◌∷◌, ◌++◌, length}
 use Rattle.std.specs.List.{flat_map}
 use Rattle.armv6m_asm.specs.declared.code.Code.{Code}

@@ -30,7 +30,7 @@ unfoldable pub items_from : ℕ → List SectorRun → List SectorItem
 items_from offset [] = []
 items_from offset (run ∷ runs) = record { size = run.size; offset = offset } ∷ items_from (offset + run.count * run.size) runs
 
--- the listing of a kind for a controller whose registers begin at `base`, a region, and pages of so many bytes
+-- the listing of a kind for a controller with its registers from `base` on, for a region, with pages of `page` bytes
 abbrev pub listing_of : Kind → ℕ → Region → ℕ → Listing
 listing_of kind base region page = record {
   text = text_of (lines kind base);

@@ -31,7 +31,7 @@ device_of l = record {
   to_erase = l.to_erase;
 }
 
--- the algorithm of a listing: data stands behind the code, and zeroed data behind that
+-- the algorithm of a listing: the code, then the data, then the zeroed data
 abbrev pub algorithm_of : Listing → List ℕ → Entries → Shown
 algorithm_of l code entries = record {
   code = code;
@@ -45,7 +45,7 @@ algorithm_of l code entries = record {
   items = l.items;
 }
 
--- the name is a string that DevName can hold with the zero byte behind it
+-- the name is a string that fits DevName with a zero byte after it
 pub record HasName (l : Listing) : Type 0 where
   pub fits : length l.name ≤ 127
   pub no_zero : All (λ byte. byte ≢ 0) l.name
@@ -75,6 +75,6 @@ abbrev pub IsUnforged : Listing → ForgeFault → Type 0
 IsUnforged l OutOfMemory = Unit {0}
 IsUnforged l (Asm fault) = (fault ≢ asm.OutOfMemory) × IsRefused l.text fault
 
--- and where it is refused, that fault is the answer, or want of memory
+-- if the text is refused, the answer is the fault that refuses it, or out of memory
 abbrev pub AnswersRefusal : Listing → Result (List ℕ) ForgeFault → Type 0
 AnswersRefusal l answer = (fault : AsmFault) → fault ≢ asm.OutOfMemory → IsRefused l.text fault → IsErrOf answer (Asm fault) ⊎ IsErrOf answer OutOfMemory

@@ -10,8 +10,8 @@ use Rattle.flm_forge.specs.Places.{symbol_names_at, section_names_at, symbols_at
 abbrev pub ident : List ℕ
 ident = 127 ∷ 69 ∷ 76 ∷ 70 ∷ 1 ∷ 1 ∷ 1 ∷ 0 ∷ 0 ∷ 0 ∷ 0 ∷ 0 ∷ 0 ∷ 0 ∷ 0 ∷ 0 ∷ []
 
--- e_type 2 (executable), e_machine 40 (Arm), e_version 1; no entry, no program headers; e_flags of version 5 of the Arm ABI;
--- e_ehsize 52, and eight section headers of 40 bytes, of which number 7 has the names
+-- The ELF header. e_type 2 (executable), e_machine 40 (Arm), e_version 1; no entry, no program headers; e_flags of version 5 of the Arm
+-- ABI; e_ehsize 52; eight section headers of 40 bytes. Section 7 has the names.
 unfoldable pub elf_header : ℕ → List ℕ
 elf_header headers_at =
     ident ++ (halves_bytes (2 ∷ 40 ∷ []) ++ (words_bytes (1 ∷ 0 ∷ 0 ∷ headers_at ∷ 0x0500_0000 ∷ [])

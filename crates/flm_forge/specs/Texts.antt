@@ -87,7 +87,7 @@ verify_lines =
     ∷ codes "LDRB R4, [R2, #0]" ∷ codes "CMP R3, R4" ∷ codes "BNE vout" ∷ codes "ADDS R0, #1" ∷ codes "ADDS R2, #1"
     ∷ codes "SUBS R1, #1" ∷ codes "B vnext" ∷ codes "vout: POP {R4, PC}" ∷ []
 
--- A4's UnInit erases the chip where it is called behind programming, and answers 0
+-- A4's UnInit erases the chip when it is called after programming, and answers 0
 abbrev pub lie_lines : Kind → List (List ℕ)
 lie_lines A4 =
     codes "lie: LDR R3, base" ∷ codes "CMP R0, #2" ∷ codes "BNE lied" ∷ codes "MOVS R0, #3" ∷ codes "STR R0, [R3, #8]"

@@ -27,7 +27,7 @@ fn put_zeros(out: &mut Vec<u8>, count: usize) -> Result<(), OutOfMemory>
     Ok(())
 }
 
-/// Adds DevName: zeros stand behind the name.
+/// Adds DevName: the name, then zeros.
 fn put_name(out: &mut Vec<u8>, name: &[u8]) -> Result<(), OutOfMemory>
     ensures { OnOk result (out.new.items ≡ out.old.items ++ name_field name.now) }
 {

@@ -49,7 +49,7 @@ impl From<OutOfMemory> for ForgeFault {
     }
 }
 
-/// Want of memory is this type's own variant, and never stands within.
+/// Out of memory is always this type's own variant, never the assembler's within `Asm`.
 impl From<AsmFault> for ForgeFault {
     ghost use Rattle.std.specs.Prelude.{◌≡◌};
     ghost use Rattle.flm_forge.specs.Results.{outer};

@@ -12,17 +12,17 @@ use octets::hex_digits;
 pub enum Kind {
     /// It does as it should.
     A1,
-    /// Its EraseChip, EraseSector and ProgramPage answer 0 and do nothing.
+    /// EraseChip, EraseSector and ProgramPage answer 0 and do nothing.
     A2,
-    /// Its EraseSector never ends.
+    /// EraseSector never ends.
     A3,
-    /// Its UnInit erases the chip after programming.
+    /// UnInit erases the chip after programming.
     A4,
-    /// Its EraseSector erases at another address.
+    /// EraseSector erases at another address.
     A5,
-    /// Its EraseSector answers 1 and does nothing.
+    /// EraseSector answers 1 and does nothing.
     A6,
-    /// Its EraseSector leaves the code.
+    /// EraseSector leaves the code.
     A7,
     /// It does as it should, by FPEC.
     F1,
@@ -38,7 +38,7 @@ const INIT: &[u8] = b"\
     MOVS R0, #0\n\
     BX LR\n";
 
-/// UnInit behind its first line locks the registers.
+/// The lines of UnInit after its first: they lock the registers.
 const UN_INIT: &[u8] = b"\
     MOVS R0, #0\n\
     STR R0, [R3, #0]\n\
@@ -62,7 +62,7 @@ const ERASE: &[u8] = b"\
     MOVS R0, #1\n\
     out: BX LR\n";
 
-/// ProgramPage behind its first two instructions stores two bytes at a time.
+/// The lines of ProgramPage after its first two: they store two bytes at a time.
 const PROGRAM_PAGE: &[u8] = b"\
     MOVS R4, #1\n\
     STR R4, [R3, #8]\n\
@@ -102,7 +102,7 @@ const VERIFY: &[u8] = b"\
     B vnext\n\
     vout: POP {R4, PC}\n";
 
-/// What UnInit of A4 does: it erases the chip where it is called behind programming.
+/// The lines of UnInit of A4: it erases the chip when it is called after programming.
 const LIE: &[u8] = b"\
     lie: LDR R3, base\n\
     CMP R0, #2\n\
@@ -124,7 +124,7 @@ const F1_INIT: &[u8] = b"\
     MOVS R0, #0\n\
     BX LR\n";
 
-/// UnInit of F1 behind its first line.
+/// The lines of UnInit of F1 after its first.
 const F1_UN_INIT: &[u8] = b"\
     MOVS R0, #0x80\n\
     STR R0, [R3, #16]\n\
@@ -152,7 +152,7 @@ const F1_ERASE: &[u8] = b"\
     MOVS R0, #1\n\
     out: BX LR\n";
 
-/// ProgramPage of F1 behind its first two instructions.
+/// The lines of ProgramPage of F1 after its first two.
 const F1_PROGRAM_PAGE: &[u8] = b"\
     MOVS R4, #1\n\
     STR R4, [R3, #16]\n\
@@ -199,7 +199,7 @@ fn un_init_first(kind: Kind) -> &'static [u8]
     }
 }
 
-/// UnInit behind its first line.
+/// The lines of UnInit after its first.
 fn un_init(kind: Kind) -> &'static [u8]
     ensures { result.now ≡ text_of (un_init_lines kind) }
 {
@@ -255,7 +255,7 @@ fn program_page_first(kind: Kind) -> &'static [u8]
     }
 }
 
-/// ProgramPage behind its first two instructions.
+/// The lines of ProgramPage after its first two.
 fn program_page(kind: Kind) -> &'static [u8]
     ensures { result.now ≡ text_of (program_page_lines kind) }
 {

@@ -13,7 +13,7 @@ use faults::OutOfMemory;
 /// The first 16 bytes of an ELF file of 32 bits, little-endian.
 const IDENT: [u8; 16] = *b"\x7FELF\x01\x01\x01\0\0\0\0\0\0\0\0\0";
 
-/// The names of the sections, each behind a zero byte.
+/// The names of the sections, each after a zero byte.
 pub const SECTION_NAMES: [u8; 52] =
     *b"\0PrgCode\0PrgData\0DevDscr\0.symtab\0.strtab\0.shstrtab\0\0";
 

@@ -20,7 +20,7 @@ pub struct Sizes {
     pub symbols: u32,
     pub code: u32,
     pub init_data: u32,
-    /// The zeroed data, of which no byte is in the file.
+    /// How many bytes of zeroed data there are. The file has none of them.
     pub zero_len: u32,
     pub descriptor: u32,
 }

@@ -9,9 +9,9 @@ use std::marker::Model;
 pub struct Listing {
     /// The assembler's text. A label with an entry's name is that entry.
     pub text: Bytes,
-    /// The data, which stands behind the code at once: `.align` as the text's last line puts it at a multiple of 4.
+    /// The data, directly after the code. If the text ends with `.align`, the data begins at a multiple of 4.
     pub init_data: Bytes,
-    /// The bytes of zeroed data, behind the data at once.
+    /// How many bytes of zeroed data there are, directly after the data.
     pub zero_len: u32,
     /// The device's name: at most 127 bytes, none of them zero.
     pub name: Bytes,

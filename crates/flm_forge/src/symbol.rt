@@ -11,7 +11,7 @@ use faults::OutOfMemory;
 use flm_descriptor::Name;
 use std::alloc::Global;
 
-/// The names of the symbols, each behind a zero byte.
+/// The names of the symbols, each after a zero byte.
 pub const SYMBOL_NAMES: [u8; 68] =
     *b"\0Init\0UnInit\0EraseSector\0ProgramPage\0EraseChip\0Verify\0FlashDevice\0\0\0";
 

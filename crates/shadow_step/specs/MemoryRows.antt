@@ -24,7 +24,7 @@ use Rattle.shadow_step.specs.Shadow.{Shadow, Marks}
 abbrev pub marks : {M : Type 0} → CoreMarks → M → Marks M
 marks t m = record { core = t; bus = m }
 
--- goes on with a value, if there is one
+-- a function applied to an optional value, or none if there is no value
 abbrev pub and_then : {A X : Type 0} → Option A → (A → Option X) → Option X
 and_then None f = None
 and_then (Some a) f = f a
