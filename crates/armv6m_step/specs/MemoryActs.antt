@@ -24,7 +24,7 @@ unfolding ram_answer
 none_fails r (Load width at) = load_fails_none r (loaded_from r width at)
 none_fails r (Store width at v) = store_fails_none r (stored_in r width at v)
 
--- the bus counts no faults
+-- a bus of bytes in memory counts no faults
 pub memory_counted : (before : Ram) (access : Access) (answer : Result ℕ BusEnd) (after : Ram) → memory_acts before access answer after
     → IsCounted 0 0 (is_device answer)
 memory_counted before access answer after acts =

@@ -1,4 +1,4 @@
--- What a bench means that tells nothing of its contents, as one over real files.
+-- The meaning of a bench that doesn't show its contents, such as one over real files.
 use Rattle.std.specs.Prelude.{IsTrue, false, ℕ, [], None}
 use Rattle.std.proofs.lemmas.Bool.{false≢true}
 use Rattle.bench_model.specs.State.{BenchState}
@@ -17,6 +17,6 @@ untold_state cell_count store_faults device_faults = record {
   cells_at = λ k cells. ⊥;
 }
 
--- a law of contents, of a bench that doesn't tell them
+-- a law of contents holds of a bench that doesn't show them
 pub untold_law : {A : Type 0} → IsTrue false → A
 untold_law told = absurd (false≢true told)
