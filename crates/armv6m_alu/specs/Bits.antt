@@ -1,7 +1,7 @@
 -- Single bits of a number, and the extension of a signed number to 32 bits.
 use Rattle.std.specs.Prelude.{ℕ, ◌+◌, ◌-◌, ◌/◌, ◌%◌, ◌^◌, Bool, nat_eq, nat_le, if◌then◌else◌}
 
--- bit k of n is 1
+-- whether bit k of n is 1
 abbrev pub is_bit_set : ℕ → ℕ → Bool
 is_bit_set n k = nat_eq (n / 2 ^ k % 2) 1
 

@@ -1,4 +1,4 @@
--- Forms whose text fits a line of 64 bytes. Only a list of registers can be too long.
+-- Forms with a text that fits a line of 64 bytes. Only a list of registers can be too long.
 use Rattle.std.specs.Prelude.{◌≤◌, ℕ, length}
 use Rattle.armv6m_forms.specs.declared.form.Operands.{Operands}
 use Rattle.armv6m_forms.specs.declared.form.Operands.TheVariants.{List as RegisterList, BaseList, UpdatedList}
@@ -23,7 +23,7 @@ abbrev pub HasRoom : Form → Type 0
 HasRoom (Plain m operands) = HasShortList operands
 HasRoom (Aimed aim target) = Unit {0}
 
--- the low registers of an instruction's list, and none where it has no list
+-- the low registers in the list of an instruction, or none if it has no list
 abbrev pub low_list : Instr → ℕ
 low_list (instr.Many (Push lr list)) = list
 low_list (instr.Many (Pop pc list)) = list

@@ -21,7 +21,7 @@ state_marks base layout b = record {
   cells = [];
 }
 
--- the target itself, over these cells
+-- the target of such a state, over these cells
 abbrev pub state_world : ℕ → FlashMap → List ℕ → Between → World
 state_world base layout cells b = record { ram_base = base; ram = b.ram.items; map = layout; state = b.state; cells = cells }
 

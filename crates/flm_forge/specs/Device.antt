@@ -1,4 +1,4 @@
--- The description of the device (`FlashOS.h`, `struct FlashDevice`) as a listing has it.
+-- The description of a listing's device (`FlashOS.h`, `struct FlashDevice`).
 use Rattle.std.specs.Prelude.{ℕ, ◌-◌, ◌<◌, ◌^◌, All, List, [], ◌∷◌, ◌++◌, length, take, replicate}
 use Rattle.std.specs.List.{flat_map}
 use Rattle.flm_descriptor.specs.declared.items.SectorItem.{SectorItem}
@@ -29,7 +29,7 @@ device_bytes l =
     half_bytes version ++ (name_field l.name ++ (half_bytes on_chip ++ (words_bytes (l.base ∷ l.size ∷ l.page ∷ 0 ∷ [])
     ++ (l.empty ∷ 0 ∷ 0 ∷ 0 ∷ words_bytes (l.to_prog ∷ l.to_erase ∷ [])))))
 
--- the description: the fields, the items, the end pair
+-- the description of the device: the fields, the items and the end pair
 unfoldable pub descriptor_bytes : Listing → List ℕ
 descriptor_bytes l = device_bytes l ++ (flat_map item_bytes l.items ++ item_bytes end_pair)
 

@@ -1,5 +1,5 @@
--- Where the parts of a file stand. The parts of fixed length come first: the ELF header, the names of symbols, and those of
--- sections. Then follow the symbols, the code, the data, the description, and the section headers.
+-- Where the parts of a file are. The parts of fixed length come first: the ELF header, the names of symbols, and the names of sections. The
+-- symbols, the code, the data, the description and the section headers follow.
 use Rattle.std.specs.Prelude.{ℕ, ◌+◌, ◌%◌, ◌^◌}
 use Rattle.flm_forge.specs.declared.sizes.Sizes.{Sizes}
 

@@ -1,4 +1,4 @@
--- Faults of the assembler as this crate keeps them.
+-- Faults of the assembler as faults of this crate.
 use Rattle.armv6m_asm.specs.declared.fault.AsmFault.{AsmFault}
 use Rattle.armv6m_asm.specs.declared.fault.AsmFault.TheVariants as asm
 use Rattle.flm_forge.specs.declared.fault.ForgeFault.{ForgeFault}
