@@ -15,7 +15,7 @@ abbrev pub IsBroken : Verdict → Type 0
 IsBroken (verdict.Broken broken) = Unit {0}
 IsBroken _ = ⊥
 
--- each algorithm is one for the region in its place
+-- algorithm number k is one for region number k
 pub record AreFit (b : BoardShown) (algorithms : List AlgorithmShown) : Type 0 where
   pub each : (k : ℕ) (a : AlgorithmShown) → slice_get algorithms k ≡ Some a → IsFit b a k
 
@@ -29,18 +29,18 @@ pub record Breaks (b : BoardShown) (a : AlgorithmShown) (region : ℕ) (work : W
   pub ideal : List ℕ
   pub breaks : BreaksAt b a region work set before ideal turn
 
--- what a breach says
+-- what a reported breach says of an algorithm
 pub record IsBreach (b : BoardShown) (a : AlgorithmShown) (region : ℕ) (broken : Broken) : Type 0 where
   pub region_is : broken.region ≡ region
   pub breaks : Breaks b a region broken.plan.work broken.turn
 
--- what lists that were tried say; no theorem comes of them
+-- what a verdict after trials says: a breach is real, and trials prove nothing else
 abbrev pub SaysTried : BoardShown → AlgorithmShown → ℕ → Verdict → Type 0
 SaysTried b a region verdict.Proved = ⊥
 SaysTried b a region verdict.Tried = Unit {0}
 SaysTried b a region (verdict.Broken broken) = IsBreach b a region broken
 
--- what a verdict says
+-- what a verdict says of an algorithm
 abbrev pub Says : BoardShown → AlgorithmShown → ℕ → Verdict → Type 0
 Says b a region verdict.Proved = Serves b a region
 Says b a region verdict.Tried = Unit {0}
@@ -55,7 +55,7 @@ beside verdict.Tried verdict.Proved = verdict.Tried
 beside verdict.Tried own = own
 beside (verdict.Broken broken) own = verdict.Broken broken
 
--- the algorithm of one of the regions
+-- a breach of the algorithm of one of the regions
 pub record BreaksOne (b : BoardShown) (algorithms : List AlgorithmShown) (broken : Broken) : Type 0 where
   pub algorithm : AlgorithmShown
   pub is : slice_get algorithms broken.region ≡ Some algorithm

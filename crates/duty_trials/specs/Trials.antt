@@ -1,4 +1,4 @@
--- What a list of calls that was tried shows of an algorithm.
+-- What the trial of a list of calls shows of an algorithm.
 use Rattle.std.specs.Prelude.{◌≡◌, ◌<◌, ◌≤◌, ◌^◌, ℕ, List, [], ◌∷◌, ◌++◌, length, All, Option}
 use Rattle.bench_model.specs.State.{BenchState, SameOutside}
 use Rattle.board_file.specs.Shown.{Shown as BoardShown}
@@ -15,7 +15,7 @@ abbrev pub world_after : Setup → Site → World → List Duty → World
 world_after s site w [] = w
 world_after s site w (d ∷ rest) = world_after s site (after s w (request_of s site.layout d)) rest
 
--- a list that `Serves` speaks of: the bytes that the cells are before it, and its phase
+-- a list that `Serves` covers, by the cells before it and its phase
 pub record IsAsked (b : BoardShown) (a : AlgorithmShown) (region : ℕ) (cells : List ℕ) (phase : Phase) : Type 0 where
   pub long : length cells ≡ cells_in (board_map b).areas
   pub bytes : All (λ v. v < 2 ^ 8) cells
@@ -31,8 +31,8 @@ pub record BreaksIn (b : BoardShown) (a : AlgorithmShown) (region : ℕ) (cells 
   pub list : duties_of (setup_of a b) (device_of a) (part (site_of b a region) cells) phase ≡ before ++ d ∷ behind
   pub breaks : Keeps (setup_of a b) (site_of b a region) (world_after (setup_of a b) (site_of b a region) (ready b a cells) before) d → ⊥
 
--- At some moment from one state of a bench to a later one a stop of the power might have left another contents outside a place: an operation
--- lay there, or a cell there had changed.
+-- At some moment from one state of a bench to a later one, a loss of power might have left other contents outside a place. Either an
+-- operation was open there, or a cell there had changed.
 pub record SeenOutside (place : Option (ℕ × ℕ)) (cells : List ℕ) (start end : BenchState) : Type 0 where
   pub moment : ℕ
   pub since : start.moment ≤ moment

@@ -1,9 +1,9 @@
--- What was seen on a bench that is watched.
+-- What was seen on a watched bench.
 use Rattle.std.specs.Prelude.{◌≡◌, ◌<◌, ◌≤◌, ◌+◌, ℕ, List, length, Option, Some, None}
 use Rattle.bench_model.specs.History.{Half}
 use Rattle.bench_model.specs.State.{SameOutside}
 
--- At some moment up to now an operation was open on a range: a stop of the power then might have left any bytes there.
+-- At some moment up to now an operation was open on a range: a loss of power then might have left any bytes there.
 pub record WasOpen (range : ℕ × ℕ) (h : Half) : Type 0 where
   pub moment : ℕ
   pub past : moment ≤ h.now
@@ -20,7 +20,7 @@ pub record Was (outside : Option (ℕ × ℕ)) (h : Half) : Type 0 where
 abbrev pub IsSeen : Option (ℕ × ℕ) → Half → Type 0
 IsSeen outside h = (Was outside h → ⊥) → ⊥
 
--- a place lies in the range
+-- a range of cells is within the bounds from `from` to `to`, if there is a range
 abbrev pub PlaceIn : ℕ → ℕ → Option (ℕ × ℕ) → Type 0
 PlaceIn from to None = Unit {0}
 PlaceIn from to (Some place) = (from ≤ place.0) × (place.0 + place.1 ≤ to)
