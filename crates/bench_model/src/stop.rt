@@ -30,7 +30,7 @@ impl<B: Bench> StopBench<B> {
         }
     }
 
-    /// Gives the inner bench back. The faults that it counted are its own.
+    /// Gives the inner bench back, with its own counts of faults.
     pub fn into_inner(self) -> B
         ensures inner { result ≡ self.inner }
         ensures same { IsSameButFaults (stopped B.state self) (B.state result) }

@@ -23,7 +23,7 @@ pub(crate) struct Trial {
     pub tally: Tally,
 }
 
-/// The first place at which contents differ from those that are wanted.
+/// The first place at which the found contents differ from the wanted ones.
 fn first_difference(found: &[u8], wanted: &[u8]) -> Option<Difference>
     ensures some { IfSome result (IsFirstDifference found.now wanted.now) }
     ensures none { IfNone result ((k : ℕ) → k < length found.now → k < length wanted.now → slice_index found.now k ≡ slice_index wanted.now k) }

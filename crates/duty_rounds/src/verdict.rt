@@ -4,7 +4,7 @@ ghost use Rattle.std.specs.Prelude.{◌≡◌, ◌↔◌, IsTrue};
 use crate::plan::Plan;
 use duty_trials::{Breach, Tally, Turn};
 
-/// A cell that differs from what the ideal device leaves: its place among all cells, the byte that is wanted, and the one that was found.
+/// A cell that differs from what the ideal device leaves: its place among all cells, the wanted byte, and the found one.
 #[derive(Clone, Copy)]
 pub struct Difference {
     pub place: usize,
@@ -27,11 +27,11 @@ pub struct Broken {
 /// What is known of algorithms.
 #[derive(Clone, Copy)]
 pub enum Verdict {
-    /// They keep their duties, by a theorem.
+    /// The algorithms keep their duties, by a theorem.
     Proved,
     /// No list that was tried broke a duty.
     Tried,
-    /// One of them doesn't keep its duties.
+    /// One algorithm doesn't keep its duties.
     Broken(Broken),
 }
 
@@ -53,7 +53,7 @@ pub struct Report {
 impl Verdict {
     ghost use Rattle.duty_rounds.specs.Verdicts.{IsBroken, beside};
 
-    /// Whether it is a breach.
+    /// Whether a verdict is a breach.
     pub fn is_broken(&self) -> bool
         ensures { IsTrue result ↔ IsBroken self.now }
     {

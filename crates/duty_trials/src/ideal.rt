@@ -5,15 +5,15 @@ ghost use Rattle.duty_trials.specs.Ended.{OnlyBetween};
 /// The bytes that pages are programmed with.
 #[derive(Clone, Copy)]
 pub enum PageBytes {
-    /// Random ones.
+    /// Random bytes.
     Random,
-    /// All 0.
+    /// 0 in each byte.
     Zero,
-    /// All the empty value.
+    /// The empty value in each byte.
     Empty,
-    /// The empty value but for the first byte.
+    /// The empty value in each byte but the first.
     First,
-    /// The empty value but for the last byte.
+    /// The empty value in each byte but the last.
     Last,
 }
 
@@ -25,7 +25,7 @@ pub struct Filling {
     pub empty: u8,
 }
 
-/// A number of a seed that looks random (Steele, Lea and Flood, "Fast splittable pseudorandom number generators").
+/// A number that looks random, made from a seed (Steele, Lea and Flood, "Fast splittable pseudorandom number generators").
 pub fn mix(seed: u64) -> u64 {
     let z = seed.wrapping_add(0x9E37_79B9_7F4A_7C15);
     let z = (z ^ (z >> 30)).wrapping_mul(0xBF58_476D_1CE4_E5B9);
@@ -33,12 +33,12 @@ pub fn mix(seed: u64) -> u64 {
     z ^ (z >> 31)
 }
 
-/// The byte of a seed at a place.
+/// The random byte of a seed at a place.
 pub fn random_byte(seed: u64, place: u64) -> u8 {
     (mix(seed ^ mix(place)) % 256) as u8
 }
 
-/// Puts one value to places of some cells.
+/// Writes one value to a range of cells.
 pub fn fill(cells: &mut [u8], from: u32, to: u32, value: u8)
     requires order { from ≤ to }
     requires within { to ≤ length cells.old }
@@ -62,7 +62,7 @@ impl Filling {
         }
     }
 
-    /// Puts the bytes of the page that has these places.
+    /// Writes the bytes of the page that has these places.
     pub fn put(&self, cells: &mut [u8], from: u32, to: u32)
         requires order { from ≤ to }
         requires within { to ≤ length cells.old }

@@ -14,7 +14,7 @@ const VERSION: u16 = 0x0101;
 /// A device in the chip (ONCHIP).
 const ON_CHIP: u16 = 1;
 
-/// The bytes of DevName.
+/// How many bytes DevName has.
 const NAME_LEN: usize = 128;
 
 /// Adds zero bytes.

@@ -1,17 +1,17 @@
-//! Why no file is made of a listing.
+//! Why no file is made from a listing.
 
 use armv6m_asm::AsmFault;
 use faults::OutOfMemory;
 use std::alloc::{AllocError, AllocFailed};
 use thiserror::Error;
 
-/// Why no file is made of a listing.
+/// Why no file is made from a listing.
 #[derive(Debug, Drop, Error)]
 pub enum ForgeFault {
-    /// There was no memory for the call, or the file would have 4,294,967,296 bytes or more.
+    /// Memory ran out, or the file would have 4,294,967,296 bytes or more.
     #[error("OutOfMemory")]
     OutOfMemory,
-    /// The text isn't assembled.
+    /// The assembler refuses the text.
     #[error("Asm {0}")]
     Asm(AsmFault),
 }

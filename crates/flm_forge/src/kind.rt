@@ -10,7 +10,7 @@ use octets::hex_digits;
 /// An algorithm that programs flash, for a board with unit 2: A1 to A7 by the controller FC1, and F1 by FPEC.
 #[derive(Clone, Copy, Debug)]
 pub enum Kind {
-    /// It does as it should.
+    /// The algorithm does what it has to do.
     A1,
     /// EraseChip, EraseSector and ProgramPage answer 0 and do nothing.
     A2,
@@ -24,11 +24,11 @@ pub enum Kind {
     A6,
     /// EraseSector leaves the code.
     A7,
-    /// It does as it should, by FPEC.
+    /// The algorithm does what it has to do, by FPEC.
     F1,
 }
 
-/// Init opens the registers with both keys.
+/// The lines of Init: they open the registers with both keys.
 const INIT: &[u8] = b"\
     Init: LDR R3, base\n\
     LDR R1, key1\n\
@@ -44,7 +44,7 @@ const UN_INIT: &[u8] = b"\
     STR R0, [R3, #0]\n\
     BX LR\n";
 
-/// What both erasing functions do: they start the operation, wait, take the error bits and clear them.
+/// The lines of both erase functions: they start the operation, wait, read the error bits and clear them.
 const ERASE: &[u8] = b"\
     STR R2, [R3, #8]\n\
     STR R0, [R3, #12]\n\
@@ -87,7 +87,7 @@ const PROGRAM_PAGE: &[u8] = b"\
     STR R5, [R3, #4]\n\
     POP {R4, R5, PC}\n";
 
-/// Verify compares byte by byte.
+/// The lines of Verify: they compare byte by byte.
 const VERIFY: &[u8] = b"\
     Verify: PUSH {R4, LR}\n\
     vnext: CMP R1, #0\n\
@@ -114,7 +114,7 @@ const LIE: &[u8] = b"\
     lied: MOVS R0, #0\n\
     BX LR\n";
 
-/// Init of F1.
+/// The lines of Init of F1.
 const F1_INIT: &[u8] = b"\
     Init: LDR R3, base\n\
     LDR R1, key1\n\
@@ -131,7 +131,7 @@ const F1_UN_INIT: &[u8] = b"\
     MOVS R0, #0\n\
     BX LR\n";
 
-/// What both erasing functions of F1 do.
+/// The lines of both erase functions of F1.
 const F1_ERASE: &[u8] = b"\
     STR R2, [R3, #16]\n\
     STR R0, [R3, #20]\n\
@@ -179,7 +179,7 @@ const F1_PROGRAM_PAGE: &[u8] = b"\
     STR R5, [R3, #16]\n\
     POP {R4, R5, PC}\n";
 
-/// Init.
+/// The lines of Init.
 fn init(kind: Kind) -> &'static [u8]
     ensures { result.now ≡ text_of (init_lines kind) }
 {
@@ -209,7 +209,7 @@ fn un_init(kind: Kind) -> &'static [u8]
     }
 }
 
-/// EraseChip.
+/// The lines of EraseChip.
 fn erase_chip(kind: Kind) -> &'static [u8]
     ensures { result.now ≡ text_of (erase_chip_lines kind) }
 {
@@ -220,7 +220,7 @@ fn erase_chip(kind: Kind) -> &'static [u8]
     }
 }
 
-/// EraseSector.
+/// The lines of EraseSector.
 fn erase_sector(kind: Kind) -> &'static [u8]
     ensures { result.now ≡ text_of (erase_sector_lines kind) }
 {
@@ -235,7 +235,7 @@ fn erase_sector(kind: Kind) -> &'static [u8]
     }
 }
 
-/// What both erasing functions do.
+/// The lines of both erase functions.
 fn erase(kind: Kind) -> &'static [u8]
     ensures { result.now ≡ text_of (erase_lines kind) }
 {
@@ -245,7 +245,7 @@ fn erase(kind: Kind) -> &'static [u8]
     }
 }
 
-/// The beginning of ProgramPage.
+/// The first lines of ProgramPage.
 fn program_page_first(kind: Kind) -> &'static [u8]
     ensures { result.now ≡ text_of (program_page_first kind) }
 {
@@ -265,7 +265,7 @@ fn program_page(kind: Kind) -> &'static [u8]
     }
 }
 
-/// What A4 does in UnInit.
+/// The lines of what A4 does in UnInit, or none.
 fn lie(kind: Kind) -> &'static [u8]
     ensures { result.now ≡ text_of (lie_lines kind) }
 {
@@ -275,7 +275,7 @@ fn lie(kind: Kind) -> &'static [u8]
     }
 }
 
-/// Adds the constants.
+/// Adds the lines of the constants.
 fn put_constants(out: &mut Vec<u8>, base: u32) -> Result<(), OutOfMemory>
     ensures { OnOk result (out.new.items ≡ out.old.items ++ text_of (constant_lines base)) }
 {
@@ -284,7 +284,7 @@ fn put_constants(out: &mut Vec<u8>, base: u32) -> Result<(), OutOfMemory>
     put(out, b"\nkey1: .word 0x45670123\nkey2: .word 0xCDEF89AB\n")
 }
 
-/// Adds the text of a kind, for a controller whose registers begin at an address.
+/// Adds the text of a kind, for a controller with its registers from `base` on.
 pub fn put_text(out: &mut Vec<u8>, kind: Kind, base: u32) -> Result<(), OutOfMemory>
     ensures { OnOk result (out.new.items ≡ out.old.items ++ text_of (lines kind base)) }
 {
