@@ -1,6 +1,5 @@
--- The shifts and the rotation of a 32-bit number by any amount, each with the carry that it leaves.
--- Armv6-M Architecture Reference Manual, A2.2.1 Integer arithmetic, LSL_C(), LSR_C(), ASR_C() and ROR_C(), and Shift_C()
--- of A6.4.3 for the amount 0, at which value and carry stay.
+-- The shifts and the rotation of a 32-bit number by any amount, each with its carry. Armv6-M Architecture Reference Manual, A2.2.1 Integer
+-- arithmetic, LSL_C(), LSR_C(), ASR_C() and ROR_C(), and Shift_C() of A6.4.3: by the amount 0 the value and the carry stay.
 use Rattle.std.specs.Prelude.{ℕ, ◌-◌, ◌*◌, ◌/◌, ◌%◌, ◌^◌, Bool, false, nat_eq, nat_lt, if◌then◌else◌}
 use Rattle.std.specs.Int.{w32, cast_signed, cast_unsigned, int_shr, rotate_right}
 use Rattle.armv6m_alu.specs.declared.Shifted.{Shifted}
@@ -32,7 +31,7 @@ shifted_right value amount carry =
     (shifted 0 (is_bit_set value 31))
     (shifted 0 false)
 
--- the sign in all 32 bits
+-- the sign bit of a number in all 32 bits
 abbrev pub sign_fill : ℕ → ℕ
 sign_fill value = if is_bit_set value 31 then 2 ^ 32 - 1 else 0
 
@@ -44,8 +43,8 @@ shifted_right_signed value amount carry =
     (shifted (sign_fill value) (is_bit_set value 31))
     (shifted (sign_fill value) (is_bit_set value 31))
 
--- std's `rotate_right w32` is the manual's rotation by the amount modulo 32: the number shifted right, with the bits that
--- fell out above it
+-- std's `rotate_right w32` is the manual's rotation by the amount modulo 32: the number shifted right, with the bits shifted out as its top
+-- bits
 unfoldable pub rotated_right : ℕ → ℕ → Bool → Shifted
 rotated_right value amount carry =
     if nat_eq amount 0 then shifted value carry else

@@ -7,23 +7,23 @@ ghost use Rattle.armv6m_alu.specs.Bits.{sign_extended};
 ghost use Rattle.armv6m_alu.specs.Sums.{sum_with_carry, is_sign_lost};
 ghost use Rattle.armv6m_alu.specs.Shifts.{shifted_left, shifted_right, shifted_right_signed, rotated_right};
 
-/// A sum's value, with the carry and the overflow that it leaves.
+/// A sum, with its carry and its overflow.
 #[derive(Clone, Copy)]
 pub struct Sum {
     /// The low 32 bits of the exact sum.
     pub value: u32,
-    /// The exact unsigned sum is at least 2^32.
+    /// Whether the exact unsigned sum is at least 2^32.
     pub carry: bool,
-    /// The exact signed sum isn't the value read as signed.
+    /// Whether the value read as signed isn't the exact signed sum.
     pub overflow: bool,
 }
 
-/// What a shift leaves, with its carry.
+/// A shifted number, with its carry.
 #[derive(Clone, Copy)]
 pub struct Shifted {
     /// The shifted number.
     pub value: u32,
-    /// The last bit that was shifted out. A shift by 0 keeps the carry that it was given.
+    /// The last bit that was shifted out. A shift by 0 keeps the carry that was passed in.
     pub carry: bool,
 }
 
@@ -42,7 +42,7 @@ pub fn add_with_carry(x: u32, y: u32, carry: bool) -> Sum
     }
 }
 
-/// Two terms of one sign have a sum of the other sign.
+/// Whether two terms of one sign have a sum of the other sign.
 fn overflows(x_sign: bool, y_sign: bool, sum_sign: bool) -> bool
     ensures { result ≡ is_sign_lost x_sign y_sign sum_sign }
 {
@@ -124,8 +124,8 @@ pub fn shift_right_signed(value: u32, amount: u32, carry: bool) -> Shifted
     }
 }
 
-/// The value rotated right by the amount modulo 32, with bit 31 of what it becomes as the carry: the manual's `ROR_C()`.
-/// An amount of 0 keeps value and carry; every other multiple of 32 keeps the value alone.
+/// The value rotated right by the amount modulo 32. The carry is bit 31 of the result: the manual's `ROR_C()`. The amount 0 keeps value and
+/// carry; every other multiple of 32 keeps only the value.
 #[tactic(auto, unfolding(crate::specs::Shifts::rotated_right))]
 pub fn rotate_right(value: u32, amount: u32, carry: bool) -> Shifted
     ensures { result ≡ rotated_right value amount carry }
@@ -141,7 +141,7 @@ pub fn rotate_right(value: u32, amount: u32, carry: bool) -> Shifted
     }
 }
 
-/// A number of so many bits, the highest of which is its sign, extended to 32 bits: the manual's `SignExtend()`.
+/// A number of `bits` bits, the highest of them the sign, extended to 32 bits: the manual's `SignExtend()`.
 #[inline(always)]
 #[tactic(auto, using(crate::proofs::PowerLemmas::powers, std::proofs::lemmas::Bool::Decides::nat_tests))]
 pub fn sign_extend(value: u32, bits: u32) -> u32

@@ -1,4 +1,4 @@
--- Each place is even, and each label stands at a place in the code or at its end.
+-- Each place is even, and each label's place is in the code or at its end.
 use Rattle.std.proofs.Common.{◌≡◌, ◌+◌, ◌%◌, ◌≤◌, ◌∙◌, ℕ, Bool, true, false, cond, List, [], ◌∷◌, ◌++◌, length, Option, Some, None, refl, ap, arith}
 use Rattle.std.specs.Prelude.{◌==◌, All}
 use Rattle.std.specs.Borrow.{Bor}
@@ -49,7 +49,7 @@ pads at false even is = let other : at % 4 ≡ 0 → ⊥ = grind (arith, nat_tes
 pub align_pads : AlignPads
 align_pads statements = let at = place_after 0 statements in pads at (at % 4 == 0) (end_even 0 statements refl) refl
 
--- one label more, or none
+-- a property of labels stays true of all when a statement adds its label or none
 labels_more : (P : Label → Type 0) (label : Option (Bor (List ℕ))) (at : ℕ) (labels : List Label) → ((name : List ℕ) → P (record { name = name; place = at }))
     → All P labels → All P (label_at label at ++ labels)
 labels_more P None at labels here all = all
@@ -69,7 +69,7 @@ labels_within from stop (s ∷ statements) within =
     (λ name. omega (arith, end_above from (s ∷ statements), within))
     (labels_within (from + size_of s.operation from) stop statements within)
 
--- the bytes end at the place behind the statements
+-- the bytes of some statements end at the place after them
 bytes_end : (labels : List Label) (from : ℕ) (statements : List Statement) (bytes : List ℕ) → AreBytes labels from statements bytes
     → from + length bytes ≡ place_after from statements
 bytes_end labels from [] bytes none = let e : length bytes ≡ 0 = ap length none in omega arith
@@ -82,7 +82,7 @@ pub label_even : (text : List ℕ) (code : Code) → IsAssembled text code → A
 label_even text code assembled =
     rw assembled.read.read.read.labels_are (labels_even 0 assembled.statements refl)
 
--- and at most the length of its code
+-- the places of a text's labels are at most the length of its code
 pub label_within : (text : List ℕ) (code : Code) → IsAssembled text code → All (λ (label : Label). label.place ≤ length code.bytes) code.labels
 label_within text code assembled =
     let stop : place_after 0 assembled.statements ≤ length code.bytes =

@@ -34,7 +34,7 @@ use Rattle.armv6m_asm.proofs.StatementLemmas.{one_register, no_colon}
 
 -- ---- the first words
 
--- which first word of an instruction with a destination a word is
+-- a number for each first word of an instruction with a destination, and 0 for other words
 key_of : List ℕ → ℕ
 key_of bytes =
     if is_text (codes "B") bytes then 1 else if is_text (codes "BL") bytes then 2 else if is_text (codes "LDR") bytes then 3
@@ -75,7 +75,7 @@ aimed_key aims.BranchLink to bytes rest is = let same : bytes ≡ codes "BL" = l
 aimed_key (aims.Load t) to bytes rest is = let same : bytes ≡ codes "LDR" = let e = is.0 in cc in ap key_of same
 aimed_key (aims.Address d) to bytes rest is = let same : bytes ≡ codes "ADR" = let e = is.0 in cc in ap key_of same
 
--- a mnemonic that is no such word, but for `LDR`
+-- no mnemonic but `LDR` is the first word of an instruction with a destination
 mnemonic_key : (m : Mnemonic) → (m ≡ mnemonics.Ldr) ⊎ (key_of (text_of m) ≡ 0)
 unfolding key_of text_of
 mnemonic_key mnemonics.Ldr = inl refl
@@ -95,7 +95,7 @@ mnemonic_begins m = refl
 directive : List ℕ → ℕ
 directive bytes = if get_or bytes 0 0 == 46 then (if get_or bytes 1 0 == 119 then 1 else 2) else 3
 
--- of the first token, or 0 where there is none
+-- which directive the first token is, or 0 where there is no token
 sort : List Token → ℕ
 sort [] = 0
 sort (word bytes ∷ rest) = directive bytes
@@ -213,7 +213,7 @@ no_bracket_destination (destinations.Label label) token is x = let e = x.0 in cc
 no_bracket_destination (destinations.Address address) (word bytes) is x = absurd (cc)
 no_bracket_destination (destinations.Address address) (mark byte) is x = x
 
--- `LDR` has a row only where a bracket is
+-- `LDR` without a destination has a bracket among its operands
 load_row : (o : Operands) (i : Instr) → row_of (forms.Plain mnemonics.Ldr o) 0 ≡ Some i → (t : ℕ) (to : Destination) (tokens : List Token) → Spell o tokens
     → Are (low_register t ∷ comma ∷ destination to ∷ []) tokens → ⊥
 load_row (operands.Immediate v) i is t to tokens x y = with_nothing (row_immediate mnemonics.Ldr) _ i (λ field. refl) is
@@ -231,7 +231,7 @@ load_row (operands.BaseList n list) i is t to tokens x y = with_nothing (row_bas
 load_row (operands.UpdatedList n list) i is t to tokens x y = with_nothing (row_updated_list mnemonics.Ldr n) _ i (λ field. refl) is
 load_row o i is t to tokens x y = absurd (cc)
 
--- an instruction without a destination is none with one
+-- no tokens are both an instruction with a destination and one without
 plain_or_aimed : (instr : Instr) (aim : Aim) (to : Destination) (bytes : List ℕ) (rest : List Token) → ArePlain instr (word bytes ∷ rest) →
     AreAimed aim to (word bytes ∷ rest) → ⊥
 unfolding key
@@ -278,7 +278,7 @@ one_value a b [] x y = absurd x
 one_value a b (word bytes ∷ rest) x y = let p = number_in-number bytes a x.0 in let q = number_in-number bytes b y.0 in cc
 one_value a b (mark byte ∷ rest) x y = absurd x.0
 
--- operations of one sort, of tokens that begin with a word
+-- two operations of one sort with the same tokens, which begin with a word, are alike
 by_word : (one other : Operation) (bytes : List ℕ) (rest : List Token) → sort_of one ≡ sort_of other → AreOperation one (word bytes ∷ rest) →
     AreOperation other (word bytes ∷ rest)
     → AreAlikeOperations one other

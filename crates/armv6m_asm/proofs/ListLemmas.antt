@@ -20,7 +20,7 @@ use Rattle.armv6m_asm.proofs.WordLemmas.{each_register}
 Fits_more : ℕ → ℕ → Type 0
 Fits_more list r = list < 65536 → list / 2 ^ r % 2 ≡ 0 → list + 1 * 2 ^ r % 65536 < 65536
 
--- a list keeps to sixteen bits when a register that isn't there yet comes in
+-- a list of registers fits sixteen bits after one register more
 pub fits_more : (list r : ℕ) → r < 16 → list < 65536 → list / 2 ^ r % 2 ≡ 0 → list + 1 * 2 ^ r % 65536 < 65536
 unfolding Fits_more
 fits_more list = each_register (Fits_more list) (
@@ -64,7 +64,7 @@ fits_more list = each_register (Fits_more list) (
   ),
 )
 
--- a register and a comma
+-- the function reads a register and a comma as one register more
 pub list_of-more : (list more : ℕ) (symbols : List Symbol) (register next : Symbol) (behind rest : List Symbol) → symbols ≡ register ∷ behind →
     behind ≡ next ∷ rest
     → next ≡ Comma → with_one_more list (register_in register) ≡ Some more → list_of list symbols ≡ list_of more rest
@@ -73,7 +73,7 @@ list_of-more list more symbols register next behind rest first second comma is =
 
 -- ---- bits
 
--- a bit that isn't set, as a number
+-- a bit that isn't set is 0 as a number
 pub clear : (list r : ℕ) → is_bit_set list r ≡ false → bit_at list r ≡ 0
 clear list r h =
     let small = bit_at-lt list r in
@@ -83,7 +83,7 @@ clear list r h =
 clear_too : (list r : ℕ) → bit_at list r ≡ 0 → is_bit_set list r ≡ false
 clear_too list r h = ne_eqb (bit_at list r) 1 (λ one. absurd (omega arith))
 
--- a number with a power of two that it doesn't have yet
+-- adding a power of two sets its bit, where it wasn't set
 more_is_or : (list r : ℕ) → is_bit_set list r ≡ false → bit_or list (2 ^ r) ≡ list + 2 ^ r
 more_is_or list r h = or_disjoint list (2 ^ r) (and_pow list r ∙ ap (λ b. b * 2 ^ r) (clear list r h) ∙ zero-mul (2 ^ r))
 
@@ -112,7 +112,7 @@ Clear list registers = AllByRecursion (λ r. is_bit_set list r ≡ false) regist
 abbrev with_all : ℕ → List ℕ → ℕ
 with_all list registers = fold (λ sum r. sum + 2 ^ r) list registers
 
--- the tokens behind an open brace
+-- the tokens after an opening brace
 abbrev behind_brace : ℕ → List ℕ → List Token
 behind_brace r registers = word (register_text r) ∷ (flat_map (λ n. mark 44 ∷ word (register_text n) ∷ []) registers ++ mark 125 ∷ [])
 
@@ -125,7 +125,7 @@ below_all [] below k d less = absurd (omega arith)
 below_all (r ∷ registers) below zero d less = below.0
 below_all (r ∷ registers) below (suc k) d less = below_all registers below.1 k d (omega arith)
 
--- registers that aren't in a list aren't in it with another register
+-- registers that aren't in a list aren't in it after another one is added
 clear_all : (list r : ℕ) (registers : List ℕ) → is_bit_set list r ≡ false → Clear list registers → AllByRecursion (λ k. (r == k) ≡ false) registers
     → Clear (list + 2 ^ r) registers
 clear_all list r [] h all others = tt
@@ -142,7 +142,7 @@ others_all list r (k ∷ registers) h all = (others_clear list r k h all.0, othe
 
 -- ---- from the definition to the function
 
--- a register that isn't there yet
+-- a register is new to a list in which its bit isn't set
 with_new : (list r : ℕ) (token : Token) → register r token → is_bit_set list r ≡ false
     → with_one_more list (register_in (symbol_of token)) ≡ Some (list + 2 ^ r)
 with_new list r token is new = rw ((Stands-register r).is token is, new) refl
@@ -166,7 +166,7 @@ zero_clear : (registers : List ℕ) → Clear 0 registers
 zero_clear [] = tt
 zero_clear (r ∷ registers) = (clear_too 0 r (bit_at-zero r), zero_clear registers)
 
--- a list's tokens behind its open brace
+-- the function reads the tokens after an opening brace as their list
 pub list_of-list : (list : ℕ) (tokens : List Token) → AreList list tokens
     → (rest : List Token) × ((tokens ≡ mark 123 ∷ rest) × (list_of 0 (map symbol_of rest) ≡ Some list))
 list_of-list list tokens is = at is.registers is.some is.each is.once is.list_is is.tokens_are where
@@ -197,7 +197,7 @@ ends_list_is : (symbol : Symbol) (rest : List Symbol) → ends_list (symbol ∷ 
 ends_list_is CloseBrace [] is = (refl, refl)
 ends_list_is symbol rest is = absurd (cc)
 
--- the registers of the tokens behind an open brace
+-- what is known of the registers of the tokens after an opening brace
 pub record HasRegisters (before list : ℕ) (tokens : List Token) : Type 0 where
   pub first : ℕ
   pub others : List ℕ
@@ -207,7 +207,7 @@ pub record HasRegisters (before list : ℕ) (tokens : List Token) : Type 0 where
   pub new : Clear before (first ∷ others)
   pub list_is : list ≡ with_all before (first ∷ others)
 
--- what a register more says
+-- what a register that is added says of the list
 pub record IsNew (before more : ℕ) (token : Token) : Type 0 where
   pub number : ℕ
   pub is : register number token
@@ -257,7 +257,7 @@ no_tokens : (tokens : List Token) → map symbol_of tokens ≡ [] → tokens ≡
 no_tokens [] is = refl
 no_tokens (token ∷ rest) is = absurd (cc)
 
--- by what stands behind the first register
+-- the tokens of a list, by the token after the first register
 split : (comma close : Bool) (before list : ℕ) (token next : Token) (rest : List Token) → is_comma (symbol_of next) ≡ comma →
     ends_list (symbol_of next ∷ map symbol_of rest) ≡ close
     → ((more : ℕ) → list_of more (map symbol_of rest) ≡ Some list → HasRegisters more list rest)

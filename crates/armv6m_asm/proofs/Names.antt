@@ -15,13 +15,13 @@ no_name_twice i j d lt inside = absurd (omega arith)
 pub name_missing : (name : List ℕ) → Contains [] name → ⊥
 name_missing name here = omega (arith, here.1)
 
--- one name more, which stands nowhere before
+-- names stay without repetition when a new one is added
 pub once_more : (names : List (List ℕ)) (name : List ℕ) → AreOnce names → (Contains names name → ⊥) → AreOnce (names ++ name ∷ [])
 once_more names name once new =
     all_pairs_push (λ (first second : List ℕ). first ≢ second) names name once
     (λ k d lt same. new (k, lt, (let at : get_or names k name ≡ get_or names k d = get_or_default names k name d lt in at) ∙ same))
 
--- one label more that has another name
+-- a name isn't among one label more, if that label has another name
 pub not_yet : (labels : List Label) (k : ℕ) (d : Label) (name : List ℕ) → k < length labels → (Contains (names_of (take k labels)) name → ⊥) →
     (get_or labels k d).name ≢ name → Contains (names_of (take (k + 1) labels)) name → ⊥
 not_yet labels k d name lt before other here =
@@ -29,7 +29,7 @@ not_yet labels k d name lt before other here =
     elim (Contains-push_cases (names_of (take k labels)) (get_or labels k d).name name (subst (λ (ns : List (List ℕ)). Contains ns name) more here))
     [ inl b ↦ before b | inr e ↦ other e ]
 
--- a label with the name, and none before it
+-- the first label with a name is found where none before it has that name
 pub first_named : (labels : List Label) (k : ℕ) (d : Label) (name : List ℕ) → k < length labels → (Contains (names_of (take k labels)) name → ⊥) →
     d ≡ get_or labels k d → d.name ≡ name → IsFirstNamed labels name d.place
 first_named labels k d name lt none here same =

@@ -12,7 +12,7 @@ use Rattle.armv6m_asm.proofs.SymbolLemmas.{Stands-exclamation, Stands-open_brack
 use Rattle.armv6m_asm.proofs.SpelledLemmas.{Spelled, operands_of-spelled, operands_of-is}
 use Rattle.armv6m_asm.proofs.ListLemmas.{list_of-list, list_of-is}
 
--- kinds of tokens, and the symbols that they are
+-- kinds of tokens, with the symbol that each one means
 data Fit : List (Token → Type 0) → List Symbol → Type 1 where
   done : Fit [] []
   then_one : {Kind : Token → Type 0} {symbol : Symbol} {kinds : List (Token → Type 0)} {symbols : List Symbol}
@@ -51,7 +51,7 @@ are_is {symbols = symbols} tokens fit is =
 is_are : {kinds : List (Token → Type 0)} {symbols : List Symbol} (tokens : List Token) → Fit kinds symbols → map symbol_of tokens ≡ symbols → Are kinds tokens
 is_are {symbols = symbols} tokens fit is = is_begin AreNone tokens [] fit (is ∙ sym (append_none symbols)) none_left
 
--- a list behind some tokens
+-- the symbols of a list of registers that comes after other tokens
 list_is : {kinds : List (Token → Type 0)} {symbols : List Symbol} (list : ℕ) (tokens : List Token) → Fit kinds symbols
     → Begin kinds (AreList list) tokens → (rest : List Symbol) × ((map symbol_of tokens ≡ symbols ++ OpenBrace ∷ rest) × (list_of 0 rest ≡ Some list))
 list_is {symbols = symbols} list tokens fit is =
@@ -143,7 +143,7 @@ spell-operands_of o tokens is = is_spelled o tokens (operands_of-is o (map symbo
 pub one_spelling : (a b : Operands) (tokens : List Token) → Spell a tokens → Spell b tokens → a ≡ b
 one_spelling a b tokens one two = let x = operands_of-spell a tokens one in let y = operands_of-spell b tokens two in cc
 
--- what the function of Reading says of a line
+-- the function of Reading answers as Statement says
 pub operands_exact : (line : List ℕ) (found : Option Operands) → found ≡ operands_of (symbols_of line)
     → MatchOption found ((o : Operands) → Spell o (tokens_of line) → ⊥) (λ o. Spell o (tokens_of line))
 unfolding symbols_of

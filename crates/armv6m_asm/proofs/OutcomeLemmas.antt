@@ -79,7 +79,7 @@ same_names from (line ∷ lines) (s ∷ ss) (t ∷ ts) x y =
 
 -- ---- checks that go through a list
 
--- a list up to the first that stops
+-- a list up to the first element that stops a check
 record IsFirst {X : Type 0} (Goes : List X → Type 0) (Stops : List X → X → Type 0) (whole : List X) : Type 0 where
   before : List X
   here : X
@@ -88,7 +88,7 @@ record IsFirst {X : Type 0} (Goes : List X → Type 0) (Stops : List X → X →
   goes : Goes before
   stops : Stops before here
 
--- none goes past what stops
+-- a check that goes through some elements isn't stopped by any of them
 abbrev GoesNoFurther : {X : Type 0} → (List X → Type 0) → (List X → X → Type 0) → Type 0
 GoesNoFurther {X} Goes Stops = (before : List X) (here : X) (after : List X) → Stops before here → Goes (before ++ here ∷ after) → ⊥
 
@@ -112,7 +112,7 @@ one_split Goes Stops never (x ∷ before) here after (y ∷ others) other behind
     (subst (λ z. Goes (z ∷ others)) e too) stops (subst (λ z. Stops (z ∷ others) other) e and) in
     (ap suc it.0, it.1)
 
--- so there is one
+-- a list has one first element that stops a check
 one_first : {X : Type 0} {Goes : List X → Type 0} {Stops : List X → X → Type 0} {whole : List X} (x y : IsFirst Goes Stops whole) → GoesNoFurther Goes Stops
     → (length x.before ≡ length y.before) × (x.here ≡ y.here)
 one_first {X} {Goes} {Stops} x y never =
@@ -120,13 +120,13 @@ one_first {X} {Goes} {Stops} x y never =
 
 -- ---- lines
 
--- the statement of a line that stands at a place, among statements with their bytes
+-- the statement of a line that is read at a place, among statements that have their bytes
 record StandsAt (labels : List Label) (line : List ℕ) (from at : ℕ) (statements : List Statement) : Type 0 where
   here : Statement
   right : IsRight line at here
   code : (bytes : List ℕ) → AreBytes labels from statements bytes → (own : List ℕ) × AreBytesOf labels here.operation at own
 
--- behind the lines before it, however those are read
+-- the statement of a line comes after the statements of the lines before it
 stands_behind : (labels : List Label) (from : ℕ) (before : List (List ℕ)) (line : List ℕ) (after : List (List ℕ)) (ss ts : List Statement) →
     AreRead from before ss
     → AreRead from (before ++ line ∷ after) ts → StandsAt labels line from (place_after from ss) ts
@@ -142,7 +142,7 @@ stands_behind labels from (l ∷ before) line after (s ∷ ss) (t ∷ ts) read w
     (subst (λ (n : ℕ). AreRead (from + n) (before ++ line ∷ after) ts) same whole.1) in
     record { here = it.here; right = it.right; code = λ bytes are. it.code are.1 (subst (λ (n : ℕ). AreBytes labels (from + n) ts are.1) same are.5) }
 
--- the line of a statement
+-- the line from which a statement was read
 record IsLineOf (from : ℕ) (lines : List (List ℕ)) (before : List Statement) (here : Statement) : Type 0 where
   earlier : List (List ℕ)
   line : List ℕ
@@ -269,7 +269,7 @@ beyond_or_bytes labels once before line after stops goes =
 
 -- ---- texts
 
--- what the readings of a text have in common
+-- two readings of a text have the same labels
 one_labels : {text : List ℕ} {ss ts : List Statement} {ls ms : List Label} → AreOfText text ss ls → AreOfText text ts ms → ls ≡ ms
 one_labels {text} {ss} {ts} x y = x.labels_are ∙ (same_names 0 (lines_of text) ss ts x.read y.read).0 ∙ sym y.labels_are
 
@@ -295,7 +295,7 @@ first_missing : {destinations names : List (List ℕ)} {name : List ℕ} → IsF
 first_missing {destinations} {names} {name} is =
     record { before = is.earlier; here = name; after = is.later; whole_is = is.destinations_are; goes = is.there; stops = is.missing }
 
--- the same in lines
+-- the first statement out of reach is on one line only
 first_beyond : {lines : List (List ℕ)} {statements : List Statement} {labels : List Label} {line : ℕ} → AreRead 0 lines statements →
     IsFirstBeyond labels statements line
     → IsFirstBeyondLine labels lines line
@@ -313,7 +313,7 @@ first_beyond {lines} {statements} {labels} read is =
       line_is = is.line_is ∙ ap (λ (n : ℕ). n + 1) (read_long 0 at.earlier is.before at.read);
     }
 
--- each check stops where it doesn't go through
+-- a check that goes through a text doesn't stop in it
 no_bad : {text : List ℕ} {line : ℕ} {ss : List Statement} {ls : List Label} → IsFirstBad (lines_of text) line → AreOfText text ss ls → ⊥
 no_bad {text} {line} {ss} is has = no_first (first_bad is) bad_or_read (record { statements = ss; read = has.read })
 
@@ -337,7 +337,7 @@ no_beyond {text} {line} {code} is has =
       are = subst (λ (ls : List Label). AreBytes ls 0 has.statements code.bytes) (one_labels has.read.read.read is.read.read.read) has.bytes;
     })
 
--- and at one place
+-- the first bad line is one line only
 one_bad : {lines : List (List ℕ)} {a b : ℕ} → IsFirstBad lines a → IsFirstBad lines b → a ≡ b
 unfolding first_bad
 one_bad x y = x.line_is ∙ ap (λ (n : ℕ). n + 1) (one_first (first_bad x) (first_bad y) bad_or_read).0 ∙ sym y.line_is

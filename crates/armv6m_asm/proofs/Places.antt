@@ -1,4 +1,4 @@
--- The places of statements, one behind another.
+-- The places of statements that follow each other.
 use Rattle.std.proofs.Common.{◌≡◌, ◌≤◌, ◌<◌, ◌+◌, ℕ, suc, List, [], ◌∷◌, ◌++◌, length, get_or, take, drop, refl, sym, ap, ◌∙◌, arith, append_assoc}
 use Rattle.std.proofs.lemmas.List.{append-nil, take_more, drop_more, take-append-drop}
 use Rattle.armv6m_asm.specs.declared.statement.Statement.{Statement}
@@ -53,16 +53,16 @@ bytes_append labels from (t ∷ statements) bytes s own before long are = (
   bytes_append labels (from + size_of t.operation from) statements before.1 s own before.5 long are,
 )
 
--- a list about a place
+-- a list is its part before a place, the element there, and its part after
 pub split_at : {X : Type 0} (xs : List X) (k : ℕ) (d : X) → k < length xs → xs ≡ take k xs ++ get_or xs k d ∷ drop (k + 1) xs
 split_at xs k d lt = sym (take-append-drop k xs) ∙ ap (λ ys. take k xs ++ ys) (drop_more xs k d lt)
 
--- the place behind one statement more
+-- the place after one statement more
 pub end_more : (statements : List Statement) (k : ℕ) (d : Statement) → k < length statements →
     place_after 0 (take (k + 1) statements) ≡ place_after 0 (take k statements) + size_of (get_or statements k d).operation (place_after 0 (take k statements))
 end_more statements k d lt = ap (place_after 0) (take_more statements k d lt) ∙ place_after-append 0 (take k statements) (get_or statements k d ∷ [])
 
--- is no higher than the end
+-- the place after some of the statements is no higher than the end
 pub place_after-take : (statements : List Statement) (k : ℕ) → place_after 0 (take k statements) ≤ place_after 0 statements
 place_after-take statements k =
     let whole : place_after 0 statements ≡ place_after (place_after 0 (take k statements)) (drop k statements) =

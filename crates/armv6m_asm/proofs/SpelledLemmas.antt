@@ -1,4 +1,4 @@
--- Which operands tokens spell: the function of Reading and the definition of Statement are the same.
+-- The function of Reading and the definition of Statement agree on which operands tokens spell.
 use Rattle.std.proofs.Common.{◌≡◌, ◌∙◌, sym, ap, subst, refl, ℕ, List, [], ◌∷◌, ◌++◌, Option, Some, None, option_and_then, option_map}
 use Rattle.armv6m_forms.specs.declared.form.Operands.{Operands}
 use Rattle.armv6m_forms.specs.declared.form.Operands.TheVariants as operands
@@ -90,7 +90,7 @@ immediate_is made o symbols is =
     let it = at_end_is (made first.0) o first.1 end in
     (first.0, (number_first_is symbols first.0 first.1 begins ∙ ap (λ (r : List Symbol). Number first.0 ∷ r) it.0, it.1))
 
--- one operand in the place of another
+-- operands that are equal have the same symbols
 replaced : (made o : Operands) (symbols : List Symbol) → made ≡ o → Spelled made symbols → Spelled o symbols
 replaced made o symbols same is = subst (λ (x : Operands). Spelled x symbols) same is
 

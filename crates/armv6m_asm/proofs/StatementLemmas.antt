@@ -49,7 +49,7 @@ one_register a b low high same =
     let e = ap register_of same in
     cc
 
--- a register that is no low one
+-- a register of 8 or above isn't a low register
 pub no_low : (tokens rest : List Token) (bytes : List ℕ) (r : ℕ) → tokens ≡ word bytes ∷ rest → register_text r ≡ bytes → r < 16 → 8 ≤ r
     → (t : ℕ) (first : Token) (others : List Token) → low_register t first → tokens ≢ first ∷ others
 no_low tokens rest bytes r begins is below high t first others low again =
@@ -113,7 +113,7 @@ branch_begins aim is = refl
 no_branch : (bytes : List ℕ) (n : ℕ) → get_or bytes 0 0 ≡ n → n ≢ 66 → (aim : Aim) → IsBranch aim → aim_text aim ≢ bytes
 no_branch bytes n first other aim is same = other (sym first ∙ ap (λ (b : List ℕ). get_or b 0 0) (sym same) ∙ branch_begins aim is)
 
--- a branch and its destination
+-- a branch and its destination are an instruction with a destination
 pub branch_aimed : (aim : Aim) (to : Destination) (bytes : List ℕ) (tokens : List Token) → IsBranch aim → aim_text aim ≡ bytes →
     Are (destination to ∷ []) tokens
     → AreAimed aim to (word bytes ∷ tokens)
@@ -140,7 +140,7 @@ no_aimed bytes tokens load address branch (aims.Address d) to is = address (same
 load_is_no_address : (bytes : List ℕ) → bytes ≡ codes "LDR" → bytes ≡ codes "ADR" → ⊥
 load_is_no_address bytes load address = omega (arith, ap (λ (b : List ℕ). get_or b 0 0) load, ap (λ (b : List ℕ). get_or b 0 0) address)
 
--- `LDR` and `ADR` are no branches, and differ
+-- `LDR` and `ADR` are different words, and no branches
 pub no_load : (bytes : List ℕ) (tokens : List Token) → bytes ≡ codes "LDR" →
     ((t : ℕ) (to : Destination) → Are (low_register t ∷ comma ∷ destination to ∷ []) tokens → ⊥)
     → (aim : Aim) (to : Destination) → AreAimed aim to (word bytes ∷ tokens) → ⊥
@@ -194,13 +194,13 @@ no_colon bytes rest (operations.Aimed (aims.Address d) to) is = let e = is.1.0.0
 
 -- ---- statements
 
--- a line with a colon as its second token, of which the rest is no operation
+-- a line with a colon as its second token is no statement if the tokens after it are no operation
 pub no_rest : (tokens rest : List Token) (bytes : List ℕ) → tokens ≡ word bytes ∷ mark 58 ∷ rest → ((operation : Operation) → AreOperation operation rest → ⊥)
     → (label : Option (Bor (List ℕ))) (operation : Operation) → AreStatement label operation tokens → ⊥
 no_rest tokens rest bytes all none None operation is = no_colon bytes rest operation (subst (AreOperation operation) all is)
 no_rest tokens rest bytes all none (Some label) operation is = none operation (subst (AreStatement (Some label) operation) all is).1.1
 
--- and of which the first token is no name
+-- a line with a colon as its second token is no statement if its first token is no name
 pub no_label : (tokens rest : List Token) (bytes : List ℕ) → tokens ≡ word bytes ∷ mark 58 ∷ rest → is_name bytes ≡ false
     → (label : Option (Bor (List ℕ))) (operation : Operation) → AreStatement label operation tokens → ⊥
 no_label tokens rest bytes all none None operation is = no_colon bytes rest operation (subst (AreOperation operation) all is)
@@ -211,7 +211,7 @@ no_label tokens rest bytes all none (Some label) operation is =
     let e = ap is_name same in
     cc
 
--- and of a line without a colon as its second token, which is no operation
+-- a line without a colon as its second token is no statement if it is no operation
 pub no_colon_then : (tokens : List Token) → ((bytes : List ℕ) (rest : List Token) → tokens ≢ word bytes ∷ mark 58 ∷ rest)
     → ((operation : Operation) → AreOperation operation tokens → ⊥)
     → (label : Option (Bor (List ℕ))) (operation : Operation) → AreStatement label operation tokens → ⊥

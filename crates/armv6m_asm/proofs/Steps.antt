@@ -1,4 +1,4 @@
--- What holds behind the first statements, or lines, in each pass over them.
+-- What holds after the first statements, or lines, in each pass over them.
 use Rattle.std.proofs.Common.{◌≡◌, ◌≤◌, ◌<◌, ◌+◌, ◌^◌, ℕ, List, [], ◌∷◌, ◌++◌, length, get_or, take, drop, refl, sym, ap, subst, ◌∙◌, arith, append_assoc}
 use Rattle.std.specs.Prelude.{All, Contains, None}
 use Rattle.std.proofs.lemmas.List.{take_all, take_more, drop_all, map-append, length-take-le}

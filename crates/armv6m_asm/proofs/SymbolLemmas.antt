@@ -1,4 +1,4 @@
--- Lemmas on what tokens are among operands.
+-- Lemmas on what tokens mean among operands.
 use Rattle.std.proofs.Common.{◌≡◌, ◌≢◌, ◌<◌, ◌∙◌, sym, ap, refl, ℕ, ◌==◌, if◌then◌else◌, Bool, true, false, List, codes, Option, Some, None, eqb-true}
 use Rattle.armv6m_forms.specs.Text.{register_text, special_text, IsSpecial}
 use Rattle.armv6m_asm.specs.Token.{Token, word, mark}
@@ -35,7 +35,7 @@ interrupts_symbol : (n r s : Option ℕ) (i : Bool) → word_symbol n r s i ≡ 
 interrupts_symbol None None None true is = refl
 interrupts_symbol n r s i is = absurd (cc)
 
--- the byte of a mark that operands have
+-- the byte of each mark that operands have
 byte_of : Symbol → Option ℕ
 byte_of (Register number) = None
 byte_of (Special number) = None
@@ -59,7 +59,7 @@ either : (v : Bool) (P : Symbol → Type 0) (a b : Symbol) → (v ≡ true → P
 either true P a b yes_ no_ = yes_ refl
 either false P a b yes_ no_ = no_
 
--- what holds of each mark's symbol
+-- a property holds of a byte's symbol if it holds of each mark's and of the rest
 each_mark : (byte : ℕ) (P : Symbol → Type 0) → (byte ≡ 44 → P Comma) → (byte ≡ 35 → P Hash) → (byte ≡ 33 → P Exclamation)
     → (byte ≡ 91 → P OpenBracket) → (byte ≡ 93 → P CloseBracket) → (byte ≡ 123 → P OpenBrace) → (byte ≡ 125 → P CloseBrace) → P Other
     → P (mark_symbol byte)
@@ -96,7 +96,7 @@ mark_is_no_interrupts byte is = each_mark byte (λ s. s ≡ Interrupts → ⊥) 
 
 -- ---- tokens
 
--- the tokens of a kind are just those that are a symbol
+-- the tokens of a kind are exactly those that have this symbol
 pub record Stands (Kind : Token → Type 0) (symbol : Symbol) : Type 0 where
   pub is : (token : Token) → Kind token → symbol_of token ≡ symbol
   pub only : (token : Token) → symbol_of token ≡ symbol → Kind token

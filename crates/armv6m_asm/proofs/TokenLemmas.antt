@@ -13,7 +13,7 @@ tokens_of-blank : (byte : ℕ) (rest : List ℕ) → is_blank byte ≡ true → 
 unfolding tokens_of
 tokens_of-blank byte rest h = let comment = other_than is_blank byte 59 h refl in rw (comment, h) refl
 
--- blanks at the beginning are no tokens
+-- blanks at the beginning don't change the tokens
 blanks : (v : Bool) (byte : ℕ) (rest : List ℕ) → is_blank byte ≡ v → tokens_of (drop (prefix_len is_blank rest) rest) ≡ tokens_of rest
     → tokens_of (drop (prefix_len is_blank (byte ∷ rest)) (byte ∷ rest)) ≡ tokens_of (byte ∷ rest)
 blanks true byte rest h later = rw (h, one-add (prefix_len is_blank rest)) (later ∙ sym (tokens_of-blank byte rest h))
@@ -40,7 +40,7 @@ pub tokens_of-mark : (byte : ℕ) (rest : List ℕ) → (byte == 59) ≡ false �
 unfolding tokens_of
 tokens_of-mark byte rest a b c = rw (a, b, c) refl
 
--- a byte of a word in front of a text
+-- a byte of a word goes into the first token of the text after it
 in_word : (byte : ℕ) (rest : List ℕ) → is_of_word byte ≡ true → tokens_of (byte ∷ rest) ≡ before_tokens byte rest (tokens_of rest)
 unfolding tokens_of
 in_word byte rest h =
@@ -49,14 +49,14 @@ in_word byte rest h =
     let tab = other_than is_of_word byte 9 h refl in
     rw (comment, space, tab, h) refl
 
--- a byte of a word in front of what isn't one
+-- a byte of a word before a byte that isn't of a word is a token by itself
 last_of_word : (byte next : ℕ) (rest : List ℕ) (tokens : List Token) → is_of_word next ≡ false
     → before_tokens byte (next ∷ rest) tokens ≡ word (byte ∷ []) ∷ tokens
 last_of_word byte next rest [] h = refl
 last_of_word byte next rest (word bytes ∷ tokens) h = rw h refl
 last_of_word byte next rest (mark other ∷ tokens) h = refl
 
--- a text that begins with a byte of a word
+-- a text that begins with a byte of a word, and its tokens
 BeginsWithWord : List ℕ → Type 0
 BeginsWithWord text = tokens_of text ≡ word (take (prefix_len is_of_word text) text) ∷ tokens_of (drop (prefix_len is_of_word text) text)
 
@@ -90,7 +90,7 @@ pub first_begins_comment : (text : List ℕ) → get_or text 0 0 ≡ 59 → toke
 first_begins_comment [] comment = tokens_of-none
 first_begins_comment (byte ∷ rest) comment = tokens_of-comment byte rest (eq-eqb byte 59 comment)
 
--- behind the blanks stands none
+-- the first byte after the blanks isn't a blank
 pub first_behind_blanks : (line : List ℕ) → is_blank (get_or (drop (prefix_len is_blank line) line) 0 0) ≡ false
 first_behind_blanks [] = refl
 first_behind_blanks (byte ∷ rest) = behind (is_blank byte) byte rest refl (first_behind_blanks rest) where
@@ -99,6 +99,6 @@ first_behind_blanks (byte ∷ rest) = behind (is_blank byte) byte rest refl (fir
   behind true byte rest h later = rw (h, one-add (prefix_len is_blank rest)) later
   behind false byte rest h later = rw h h
 
--- what a slice lends from a place to its end
+-- a slice from a place to the end of a text
 pub lent_rest : (text : List ℕ) (n : ℕ) → take (length text - n) (drop n text) ≡ drop n text
 lent_rest text n = take_all (length text - n) (drop n text) (omega (arith, length-drop n text))

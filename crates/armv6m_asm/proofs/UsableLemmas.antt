@@ -1,4 +1,4 @@
--- What the statement of a line is known to have.
+-- What is known of the statement of a line: ASCII names, and fields that fit.
 use Rattle.std.proofs.Common.{◌≡◌, ◌<◌, ℕ, zero, suc, Bool, true, false, ◌&&◌, ◌||◌, List, [], ◌∷◌, refl, arith}
 use Rattle.std.specs.Prelude.{Option, Some, None}
 use Rattle.std.specs.List.{list_all}

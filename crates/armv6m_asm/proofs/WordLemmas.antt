@@ -35,7 +35,7 @@ is_text-self (byte ∷ text) = rw (eq-eqb byte byte refl) (is_text-self text)
 
 -- ---- the first number with a text
 
--- each of some numbers is as said
+-- a property holds of each number of a list
 abbrev pub Each : (ℕ → Type 0) → List ℕ → Type 0
 Each P [] = Unit {0}
 Each P (n ∷ numbers) = P n × Each P numbers
@@ -78,7 +78,7 @@ register_of-is bytes r is =
     let it = found (λ r. r < 16) (λ r. is_text (register_text r) bytes) (range_with_len 0 16) r numbers_below is in
     (same_text (register_text r) bytes it.1, it.0)
 
--- what holds of each number of a range
+-- a property of each number of a range holds of one in it
 pub each_in : (P : ℕ → Type 0) (n a r : ℕ) → Each P (range_with_len a n) → a ≤ r → r < a + n → P r
 each_in P zero a r each low high = absurd (omega arith)
 each_in P (suc n) a r each low high = ⊎_elim
@@ -163,7 +163,7 @@ unfolding value_of
 value_of-numeral radix digits numeral small =
     rw (lt-ltb 0 (length digits) numeral.0, passes_digits radix digits numeral.1, lt-ltb (digits_value radix digits) (2 ^ 32) small) refl
 
--- a choice that is made
+-- a choice that gives a number was made
 chosen : (v : Bool) (n m : ℕ) → (if v then Some n else None) ≡ Some m → (v ≡ true) × (m ≡ n)
 chosen true n m is = (refl, cc)
 chosen false n m is = absurd (cc)
@@ -218,7 +218,7 @@ number_in-is bytes value is = number_at (is_text (codes "0x") (take 2 bytes)) by
 
 -- ---- what a reader's answer says
 
--- none, where each value that is found can't be
+-- a reader that finds nothing, where each value that it could find is excluded
 none_found : (found : Option ℕ) → ((n : ℕ) → found ≡ Some n → ⊥) → found ≡ None
 none_found None never = refl
 none_found (Some n) never = absurd (never n refl)

@@ -26,7 +26,7 @@ AreAlikeLabels None None = Unit {0}
 AreAlikeLabels (Some one) (Some other) = one.now ≡ other.now
 AreAlikeLabels one other = ⊥
 
--- the same label, and the same operation
+-- two statements have the same label and the same operation
 abbrev pub AreAlike : Statement → Statement → Type 0
 AreAlike one other = AreAlikeLabels one.label other.label × AreAlikeOperations one.operation other.operation
 

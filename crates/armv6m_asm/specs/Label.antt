@@ -5,7 +5,7 @@ use Rattle.armv6m_asm.specs.declared.labels.Label.{Label}
 abbrev pub names_of : List Label → List (List ℕ)
 names_of labels = map (λ label. label.name) labels
 
--- the first label of a name has this place
+-- the first label with this name has this place
 pub record IsFirstNamed (labels : List Label) (name : List ℕ) (place : ℕ) : Type 0 where
   pub before : List Label
   pub after : List Label

@@ -13,7 +13,7 @@ use Rattle.armv6m_asm.specs.Assembly.{IsFirstBeyond, AreRead, IsFirstBad}
 
 -- ---- lines
 
--- the statements of all lines, whose places have 32 bits
+-- the statements of all lines. The place of each fits 32 bits.
 pub record ReadsAll (lines : List (List ℕ)) (statements : List Statement) : Type 0 where
   pub read : AreRead 0 lines statements
   pub usable : All IsUsable statements
@@ -32,12 +32,12 @@ pub record FindsLabels (statements : List Statement) (labels : List Label) : Typ
   pub labels_are : labels ≡ labels_of 0 statements
   pub once : AreOnce (names_of labels)
 
--- some labels are added, and still no name stands twice
+-- a statement's labels are added to the list, and still no name stands twice
 pub record AddsLabels (old new labels : List Label) : Type 0 where
   pub added : new ≡ old ++ labels
   pub once : AreOnce (names_of old) → AreOnce (names_of new)
 
--- a label stands among others already
+-- a statement's label is in the list already
 pub record StandsAlready (old labels : List Label) (name : List ℕ) : Type 0 where
   pub named : names_of labels ≡ name ∷ []
   pub already : Contains (names_of old) name
@@ -58,7 +58,7 @@ IsLabelFault statements OutOfMemory = Unit {0}
 
 -- ---- destinations
 
--- a statement's destination is no label
+-- a statement names a destination that isn't a label
 pub record IsMissing (operation : Operation) (names : List (List ℕ)) (name : List ℕ) : Type 0 where
   pub named : named_by operation ≡ name ∷ []
   pub missing : Contains names name → ⊥
@@ -79,14 +79,14 @@ IsDestinationFault destinations names OutOfMemory = Unit {0}
 
 -- ---- code
 
--- an instruction's code is added
+-- the code of an instruction is added to the bytes
 pub record AddsCode (old new : List ℕ) (i : Instr) : Type 0 where
   pub own : List ℕ
   pub added : new ≡ old ++ own
   pub long : length own ≡ width i
   pub code : IsCodeOf i own
 
--- a statement's bytes are added
+-- the bytes of a statement are added to those before it
 pub record AddsBytes (labels : List Label) (operation : Operation) (at : ℕ) (old new : List ℕ) : Type 0 where
   pub own : List ℕ
   pub added : new ≡ old ++ own

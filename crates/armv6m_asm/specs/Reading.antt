@@ -1,5 +1,5 @@
--- The operands that tokens spell, as a function that proofs compute with. Only clauses of private functions cite it: what
--- is read is stated in Statement, and proofs/OperandLemmas has that both are the same.
+-- The operands that tokens spell, as a function that proofs compute with. Only contracts of private functions cite it. Statement states
+-- what is read, and proofs/OperandLemmas shows that both agree.
 use Rattle.std.specs.Prelude.{◌<◌, ◌+◌, ◌^◌, ◌==◌, ◌&&◌, ℕ, Bool, true, false, nat_lt, List, [], ◌∷◌, map, take, drop, length, codes, Option, Some, None}
 use Rattle.std.specs.Prelude.{option_and_then, option_map, if◌then◌else◌}
 use Rattle.std.specs.List.{list_all, find, range_with_len}
@@ -21,7 +21,7 @@ is_text [] [] = true
 is_text (byte ∷ text) (other ∷ bytes) = (byte == other) && is_text text bytes
 is_text text bytes = false
 
--- the number that digits write, where it is below 2^32
+-- the number that these digits write in a radix, if it is below 2^32
 unfoldable pub value_of : ℕ → List ℕ → Option ℕ
 value_of radix digits =
     if (nat_lt 0 (length digits)) && (list_all (λ byte. nat_lt (digit_value byte) radix) digits && nat_lt (digits_value radix digits) (2 ^ 32))
@@ -57,7 +57,7 @@ symbol_of (mark byte) = mark_symbol byte
 unfoldable pub symbols_of : List ℕ → List Symbol
 symbols_of line = map symbol_of (tokens_of line)
 
--- a register's number is below 16
+-- the number of a register symbol is below 16
 abbrev pub IsLow : Symbol → Type 0
 IsLow (Register number) = number < 16
 IsLow symbol = Unit {0}
@@ -76,12 +76,12 @@ abbrev pub ends_list : List Symbol → Bool
 ends_list (CloseBrace ∷ []) = true
 ends_list symbols = false
 
--- what the list is with a register more: none where it is there already
+-- a list of registers with one register more, or none if that register is missing or in the list already
 abbrev pub with_one_more : ℕ → Option ℕ → Option ℕ
 with_one_more list None = None
 with_one_more list (Some register) = if is_bit_set list register then None else Some (list + 2 ^ register)
 
--- the list with the registers up to the close brace, where some are in it already
+-- a list of registers with those that the symbols name up to the closing brace, or none where one occurs twice
 unfoldable pub list_of : ℕ → List Symbol → Option ℕ
 list_of list [] = None
 list_of list (symbol ∷ []) = None
@@ -103,58 +103,58 @@ abbrev pub behind_close_bracket : List Symbol → Option (List Symbol)
 behind_close_bracket (CloseBracket ∷ rest) = Some rest
 behind_close_bracket symbols = None
 
--- a register, and what follows it
+-- the register that the symbols begin with, and the symbols after it
 abbrev pub register_first : List Symbol → Option (ℕ × List Symbol)
 register_first (Register register ∷ rest) = Some (register, rest)
 register_first symbols = None
 
--- a number, and what follows it
+-- the number that the symbols begin with, and the symbols after it
 abbrev pub number_first : List Symbol → Option (ℕ × List Symbol)
 number_first (Number value ∷ rest) = Some (value, rest)
 number_first symbols = None
 
--- where nothing follows
+-- these operands, if no symbol is left
 abbrev pub at_end : Operands → List Symbol → Option Operands
 at_end operands [] = Some operands
 at_end operands (symbol ∷ rest) = None
 
--- where only a bracket follows
+-- these operands, if only a closing bracket is left
 abbrev pub closed : Operands → List Symbol → Option Operands
 closed operands symbols = option_and_then (at_end operands) (behind_close_bracket symbols)
 
--- behind `special`
+-- the operands by the symbols after `special`
 abbrev pub to_special : ℕ → List Symbol → Option Operands
 to_special special symbols =
     option_and_then (λ rest. option_and_then (λ n. at_end (operands.ToSpecial special n.0) n.1) (register_first rest)) (behind_comma symbols)
 
--- behind `t, [n,`
+-- the operands by the symbols after `t, [n,`
 abbrev pub indexed : ℕ → ℕ → List Symbol → Option Operands
 indexed t n [] = None
 indexed t n (Register m ∷ rest) = closed (operands.ByRegister t n m) rest
 indexed t n (Hash ∷ rest) = option_and_then (λ offset. closed (operands.ByOffset t n offset.0) offset.1) (number_first rest)
 indexed t n symbols = None
 
--- behind `t, [`
+-- the operands by the symbols after `t, [`
 abbrev pub in_brackets : ℕ → List Symbol → Option Operands
 in_brackets t symbols = option_and_then (λ n. option_and_then (indexed t n.0) (behind_comma n.1)) (register_first symbols)
 
--- behind `#`, where the number is made an operand
+-- the operands by the symbols after `#`, where `made` makes an operand of the number
 abbrev pub immediate : (ℕ → Operands) → List Symbol → Option Operands
 immediate made symbols = option_and_then (λ value. at_end (made value.0) value.1) (number_first symbols)
 
--- behind `d, n,`
+-- the operands by the symbols after `d, n,`
 abbrev pub third : ℕ → ℕ → List Symbol → Option Operands
 third d n [] = None
 third d n (Register m ∷ rest) = at_end (operands.Three d n m) rest
 third d n (Hash ∷ rest) = immediate (operands.TwoImmediate d n) rest
 third d n symbols = None
 
--- behind `d, n`
+-- the operands by the symbols after `d, n`
 abbrev pub after_two : ℕ → ℕ → List Symbol → Option Operands
 after_two d n [] = Some (operands.Two d n)
 after_two d n (symbol ∷ rest) = option_and_then (third d n) (behind_comma (symbol ∷ rest))
 
--- behind `d,`
+-- the operands by the symbols after `d,`
 abbrev pub second : ℕ → List Symbol → Option Operands
 second d [] = None
 second d (Register n ∷ rest) = after_two d n rest
@@ -164,12 +164,12 @@ second d (OpenBracket ∷ rest) = in_brackets d rest
 second d (OpenBrace ∷ rest) = option_map (operands.BaseList d) (list_of 0 rest)
 second d symbols = None
 
--- behind `n!`
+-- the operands by the symbols after `n!`
 abbrev pub updated : ℕ → List Symbol → Option Operands
 updated n symbols =
     option_and_then (λ rest. option_map (operands.UpdatedList n) (option_and_then (list_of 0) (behind_open_brace rest))) (behind_comma symbols)
 
--- behind `d`
+-- the operands by the symbols after `d`
 abbrev pub after_one : ℕ → List Symbol → Option Operands
 after_one d [] = Some (operands.One d)
 after_one d (Comma ∷ rest) = second d rest

@@ -22,19 +22,19 @@ use Rattle.armv6m_asm.specs.Token.{Token, word, mark, is_letter, is_digit, token
 
 -- ---- words
 
--- a letter or `_`, then letters, digits and `_`
+-- a name: a letter or `_`, then letters, digits and `_`
 abbrev pub is_name : List ℕ → Bool
 is_name [] = false
 is_name (first ∷ rest) = is_letter first && list_all (λ byte. is_letter byte || is_digit byte) rest
 
--- `0x` and hexadecimal digits of either case, at least one
+-- a hexadecimal number: `0x`, then at least one digit, with letters of either case
 pub record IsHexadecimal (bytes : List ℕ) (value : ℕ) : Type 0 where
   pub digits : List ℕ
   pub bytes_are : bytes ≡ codes "0x" ++ digits
   pub numeral : IsNumeral 16 digits
   pub value_is : value ≡ digits_value 16 digits
 
--- decimal digits, at least one
+-- a decimal number: at least one digit
 pub record IsDecimal (bytes : List ℕ) (value : ℕ) : Type 0 where
   pub numeral : IsNumeral 10 bytes
   pub value_is : value ≡ digits_value 10 bytes
@@ -43,7 +43,7 @@ pub record IsDecimal (bytes : List ℕ) (value : ℕ) : Type 0 where
 abbrev pub IsNumber : List ℕ → ℕ → Type 0
 IsNumber bytes value = (IsDecimal bytes value ⊎ IsHexadecimal bytes value) × (value < 2 ^ 32)
 
--- an address in the place of a label: `0x` and eight digits
+-- an address written as a destination: `0x` and eight hexadecimal digits
 pub record IsAddress (bytes : List ℕ) (address : ℕ) : Type 0 where
   pub value : IsHexadecimal bytes address
   pub eight : length bytes ≡ 10
@@ -56,7 +56,7 @@ exactly text token = token ≡ word text
 abbrev pub register : ℕ → Token → Type 0
 register number token = (token ≡ word (register_text number)) × (number < 16)
 
--- a register that three bits name
+-- a register of R0 to R7, which three bits can name
 abbrev pub low_register : ℕ → Token → Type 0
 low_register number token = (token ≡ word (register_text number)) × (number < 8)
 
@@ -93,7 +93,7 @@ open_bracket token = token ≡ mark 91
 abbrev pub close_bracket : Token → Type 0
 close_bracket token = token ≡ mark 93
 
--- tokens that are one by one as is said, and behind them what is said of the rest
+-- tokens that begin with one token of each of these kinds. What is left of them satisfies `Rest`.
 abbrev pub Begin : List (Token → Type 0) → (List Token → Type 0) → List Token → Type 0
 Begin [] Rest tokens = Rest tokens
 Begin (Kind ∷ kinds) Rest [] = ⊥
@@ -102,17 +102,17 @@ Begin (Kind ∷ kinds) Rest (token ∷ tokens) = Kind token × Begin kinds Rest 
 abbrev pub AreNone : List Token → Type 0
 AreNone tokens = tokens ≡ []
 
--- tokens that are one by one as is said, and no more
+-- tokens that are one token of each of these kinds, and no more
 abbrev pub Are : List (Token → Type 0) → List Token → Type 0
 Are kinds tokens = Begin kinds AreNone tokens
 
 -- ---- operands
 
--- the registers with a comma between each two
+-- the tokens of a list of registers, with a comma between each two
 abbrev pub list_tokens : List ℕ → List Token
 list_tokens registers = join_by (λ r. word (register_text r) ∷ []) (mark 44 ∷ []) registers
 
--- registers in braces: at least one, in any order, and none of them twice
+-- the tokens after an opening brace: at least one register, in any order, and none of them twice
 pub record AreList (list : ℕ) (tokens : List Token) : Type 0 where
   pub registers : List ℕ
   pub some : 0 < length registers
@@ -121,7 +121,7 @@ pub record AreList (list : ℕ) (tokens : List Token) : Type 0 where
   pub list_is : list ≡ sum_by (λ r. 2 ^ r) registers
   pub tokens_are : tokens ≡ mark 123 ∷ (list_tokens registers ++ mark 125 ∷ [])
 
--- the tokens of operands
+-- the tokens that spell some operands
 abbrev pub Spell : Operands → List Token → Type 0
 Spell operands.None = Are []
 Spell (operands.One m) = Are (register m ∷ [])
@@ -141,14 +141,14 @@ Spell (operands.ToSpecial special n) = Are (special_register special ∷ comma �
 
 -- ---- statements
 
--- an instruction without a destination: the one that stands for the mnemonic and the operands, wherever it stands
+-- the tokens of an instruction without a destination: its mnemonic and operands, which stand for it at every place
 pub record ArePlain (instr : Instr) (tokens : List Token) : Type 0 where
   pub mnemonic : Mnemonic
   pub operands : Operands
   pub spelled : Begin (exactly (text_of mnemonic) ∷ []) (Spell operands) tokens
   pub stands : (at : ℕ) → StandsFor instr at (forms.Plain mnemonic operands)
 
--- an instruction with a destination
+-- the tokens of an instruction with a destination
 abbrev pub AreAimed : Aim → Destination → List Token → Type 0
 AreAimed aims.Branch to tokens = Are (exactly (aim_text aims.Branch) ∷ destination to ∷ []) tokens
 AreAimed (aims.BranchIf condition) to tokens = Are (exactly (aim_text (aims.BranchIf condition)) ∷ destination to ∷ []) tokens
@@ -164,11 +164,11 @@ AreOperation operations.Align tokens = Are (exactly (codes ".align") ∷ []) tok
 AreOperation (operations.Plain instr) tokens = ArePlain instr tokens
 AreOperation (operations.Aimed aim to) tokens = AreAimed aim to tokens
 
--- an operation, and a label and a colon before it where there is one
+-- the tokens of a statement: an operation, after a label and a colon if there is a label
 abbrev pub AreStatement : Option (Bor (List ℕ)) → Operation → List Token → Type 0
 AreStatement None operation tokens = AreOperation operation tokens
 AreStatement (Some label) operation tokens = Begin (name label.now ∷ colon ∷ []) (AreOperation operation) tokens
 
--- the line's statement
+-- a line reads as this statement
 abbrev pub IsStatement : List ℕ → Statement → Type 0
 IsStatement line statement = AreStatement statement.label statement.operation (tokens_of line)

@@ -1,4 +1,4 @@
--- What the statement of a line is known to have: its names are ASCII, and the fields of its instruction fit their bits.
+-- What is known of a statement that was read: its names are ASCII, and the fields of its instruction fit their bits.
 use Rattle.std.specs.Prelude.{IsTrue, IfSome}
 use Rattle.std.specs.Str.{IsAscii}
 use Rattle.armv6m_encode.specs.Encoding.{fields_fit}

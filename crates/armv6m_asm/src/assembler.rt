@@ -9,7 +9,7 @@ use crate::find::{check_destinations, find_labels};
 use crate::read::read_all;
 use std::alloc::Global;
 
-/// Assembles a text. Each line has one statement, and the text begins at address 0.
+/// Assembles a text. Each line is one statement, and the text begins at address 0.
 pub fn assemble(alloc: Global, text: &[u8]) -> Result<Code, AsmFault>
     ensures ok { IfOk result (IsAssembled text.now) }
     ensures err { IfErr result (IsRefused text.now) }
@@ -21,7 +21,7 @@ pub fn assemble(alloc: Global, text: &[u8]) -> Result<Code, AsmFault>
     Ok(Code { bytes, labels })
 }
 
-/// A law: wherever `.align` stands in a text, a multiple of 4 comes behind it.
+/// A law: after an `.align` the place is a multiple of 4, wherever the `.align` stands in a text.
 pub fn align_pads()
     ensures { AlignPads }
 {}

@@ -24,7 +24,7 @@ pub struct Code {
     pub labels: Labels,
 }
 
-/// The bytes of the statements; the first whose destination is out of reach is at fault.
+/// The bytes of the statements. The fault names the first statement that can't reach its destination.
 pub(crate) fn write_code(
     alloc: Global,
     statements: &[Statement],
@@ -47,7 +47,7 @@ pub(crate) fn write_code(
     Ok(Bytes::from_vec(bytes))
 }
 
-/// Adds the bytes of a line's statement at a place.
+/// Adds the bytes of a statement at a place.
 fn add_operation(
     bytes: &mut Vec<u8>,
     operation: &Operation,
@@ -76,7 +76,7 @@ fn add_operation(
     }
 }
 
-/// Adds what pads a place to a multiple of 4: `NOP`, BF00.
+/// Pads a place to a multiple of 4 with `NOP`, BF00.
 fn add_padding(bytes: &mut Vec<u8>, place: u32) -> Result<(), AllocError>
     ensures { OnOk result (bytes.new.items ≡ bytes.old.items ++ padding place) }
 {
@@ -131,7 +131,7 @@ fn add_aimed(
     }
 }
 
-/// The address that a destination stands for.
+/// The address that a destination means.
 fn address_of(destination: Destination, labels: &Labels) -> u32
     requires { All (Contains (names_of labels.now)) (name_in destination) }
     ensures { LeadsTo labels.now destination.entry result }

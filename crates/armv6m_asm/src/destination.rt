@@ -10,7 +10,7 @@ use crate::statement::Destination;
 use crate::token::{is_end, skip_mark, split_word};
 use armv6m_forms::read_register;
 
-/// The low register, the comma and the destination that a text is.
+/// Reads a text as a low register, a comma and a destination.
 pub(crate) fn last_pair(line: &[u8]) -> Option<(u8, Destination<'_>)>
     ensures { MatchOption result ((t : ℕ) (to : Destination) → Are (low_register t ∷ comma ∷ destination to ∷ []) (tokens_of line.now) → ⊥)
         (λ pair. Are (low_register pair.0 ∷ comma ∷ destination pair.1 ∷ []) (tokens_of line.now)) }
@@ -20,7 +20,7 @@ pub(crate) fn last_pair(line: &[u8]) -> Option<(u8, Destination<'_>)>
     Some((register, to))
 }
 
-/// How many registers three bits name.
+/// Three bits name the registers below this one.
 const LOW: u8 = 8;
 
 /// The low register that a text begins with, and what follows it.
@@ -37,7 +37,7 @@ fn split_low(line: &[u8]) -> Option<(u8, &[u8])>
     }
 }
 
-/// The destination that a text is.
+/// Reads a text as a destination.
 pub(crate) fn last_destination(line: &[u8]) -> Option<Destination<'_>>
     ensures { MatchOption result ((to : Destination) → Are (destination to ∷ []) (tokens_of line.now) → ⊥)
         (λ to. Are (destination to ∷ []) (tokens_of line.now)) }
@@ -50,7 +50,7 @@ pub(crate) fn last_destination(line: &[u8]) -> Option<Destination<'_>>
     }
 }
 
-/// The destination that a word is: a name, or an address.
+/// Reads a word as a destination: a name or an address.
 fn read_destination(bytes: &[u8]) -> Option<Destination<'_>>
     ensures { MatchOption result ((to : Destination) → destination to (word bytes.now) → ⊥) (λ to. destination to (word bytes.now)) }
 {

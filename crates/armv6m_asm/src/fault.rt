@@ -4,21 +4,20 @@ use octets::Word;
 use std::alloc::{AllocError, AllocFailed};
 use thiserror::Error;
 
-/// Why a text isn't assembled. Lines count from 1. Each check goes over the whole text, and the checks come in this
-/// order, but for want of memory.
+/// Why a text isn't assembled. Lines count from 1. Each check goes over the whole text, in the order of these variants. Memory can run out
+/// at any time.
 #[derive(Debug, Drop, Error)]
 pub enum AsmFault {
-    /// The line is no statement, an operand that is no destination doesn't fit its field, or a `.word` doesn't stand at a
-    /// multiple of 4.
+    /// The line can't be read: it is no statement, an operand doesn't fit its field, or a `.word` isn't at a multiple of 4.
     #[error("BadWord {line}")]
     BadWord { line: u64 },
-    /// The line's label stands on an earlier line too.
+    /// The label also stands on an earlier line.
     #[error("TwiceLabel {}", .name.text())]
     TwiceLabel { name: Word },
-    /// The label that a line names as its destination stands on no line.
+    /// A destination names a label that stands on no line.
     #[error("NoLabel {}", .name.text())]
     NoLabel { name: Word },
-    /// The distance to the line's destination doesn't fit its field.
+    /// The distance from this line to its destination doesn't fit the instruction's field.
     #[error("OutOfReach {line}")]
     OutOfReach { line: u64 },
     /// No memory was left, or the code is longer than 4,294,967,295 bytes.

@@ -15,7 +15,7 @@ use faults::OutOfMemory;
 use octets::Word;
 use std::alloc::Global;
 
-/// The labels of the statements, each with its place; the first that stands twice is at fault.
+/// The labels of the statements, each with its place. The fault names the first label that stands twice.
 pub(crate) fn find_labels(alloc: Global, statements: &[Statement]) -> Result<Labels, AsmFault>
     requires usable { All IsUsable statements.now }
     requires fits { place_after 0 statements.now < 2 ^ 32 }
@@ -31,7 +31,7 @@ pub(crate) fn find_labels(alloc: Global, statements: &[Statement]) -> Result<Lab
     Ok(labels)
 }
 
-/// Adds a statement's label, where it has one.
+/// Adds the label of a statement, if it has one.
 fn add_label(
     alloc: Global,
     labels: &mut Labels,
@@ -53,7 +53,7 @@ fn add_label(
     Ok(())
 }
 
-/// Whether each destination that is a name is a label; the first that isn't is at fault.
+/// Checks that each destination that is a name is a label. The fault names the first that isn't.
 pub(crate) fn check_destinations(
     alloc: Global,
     statements: &[Statement],
@@ -69,7 +69,7 @@ pub(crate) fn check_destinations(
     Ok(())
 }
 
-/// Whether a statement's destination is a label, where it is a name.
+/// Checks that the destination of a statement is a label, if it is a name.
 fn check_destination(alloc: Global, operation: &Operation, labels: &Labels) -> Result<(), AsmFault>
     requires { IsUsableOperation operation.now }
     ensures ok { OnOk result (All (Contains (names_of labels.now)) (named_by operation.now)) }

@@ -4,7 +4,7 @@ use octets::Word;
 use std::alloc::{AllocFailed, Global};
 use std::marker::Model;
 
-/// A label of a text, with the place of its statement, in bytes from the text's start.
+/// A label of a text, with the place of its statement in bytes from the start of the code.
 #[derive(Drop)]
 pub struct Label {
     pub name: Word,
@@ -30,14 +30,14 @@ impl Labels {
     ghost use Rattle.std.specs.Prelude.{◌≡◌, ◌∷◌, ◌++◌, [], Contains, IfSome, MatchOption, OnOk};
     ghost use Rattle.armv6m_asm.specs.Label.{names_of, IsFirstNamed};
 
-    /// The labels of a vector, with no copy.
+    /// Takes a vector of labels, without a copy.
     pub fn from_vec(items: Vec<Label>) -> Labels
         ensures { result ≡ items.items }
     {
         Labels { items }
     }
 
-    /// No label.
+    /// An empty list of labels.
     pub(crate) fn new(alloc: Global) -> Labels
         ensures { result ≡ [] }
     {
@@ -46,28 +46,28 @@ impl Labels {
         }
     }
 
-    /// Adds a label behind the others.
+    /// Adds a label at the end.
     pub(crate) fn push(&mut self, label: Label) -> Result<(), AllocFailed<Label>>
         ensures { OnOk result (self.new ≡ self.old ++ label ∷ []) }
     {
         self.items.push(label)
     }
 
-    /// The vector of the labels, with no copy.
+    /// Turns the labels into a vector, without a copy.
     pub fn into_vec(self) -> Vec<Label>
         ensures { result.items ≡ self }
     {
         self.items
     }
 
-    /// The labels, lent.
+    /// The labels as a slice.
     pub fn as_slice(&self) -> &[Label]
         ensures { result.now ≡ self.now }
     {
         self.items.as_slice()
     }
 
-    /// The place of the first label of that name.
+    /// The place of the first label with this name.
     pub fn get(&self, name: &[u8]) -> Option<u32>
         ensures cases { MatchOption result (Contains (names_of self.now) name.now → ⊥)
             (λ place. Contains self.now (record { name = name.now; place = place })) }

@@ -7,12 +7,12 @@ pub fn one_statement_for_each_line()
     ensures { OneStatementForEachLine }
 {}
 
-/// A text that is refused has no code, but for want of memory.
+/// A text that is refused has no code, unless it is refused out of memory.
 pub fn refused_or_assembled()
     ensures { RefusedOrAssembled }
 {}
 
-/// A text is refused for one reason at most, but for want of memory.
+/// A text has at most one refusal other than out of memory.
 pub fn one_refusal()
     ensures { OneRefusal }
 {}

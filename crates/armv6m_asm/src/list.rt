@@ -5,7 +5,7 @@ ghost use Rattle.armv6m_asm.specs.Reading.{IsLow, symbols_of, register_in, with_
 
 use crate::symbol::{Symbol, split_symbol};
 
-/// The list of the registers that a text has up to its last token, a closing brace. Bit r stands for the register r.
+/// The list of the registers before a closing brace, which is the text's last token. Bit r stands for register r.
 #[tactic(auto, unfolding(crate::specs::Reading::list_of))]
 pub(crate) fn last_list(line: &[u8]) -> Option<u16>
     ensures { result ≡ list_of 0 (symbols_of line.now) }
@@ -24,7 +24,7 @@ pub(crate) fn last_list(line: &[u8]) -> Option<u16>
     }
 }
 
-/// A list with a register more, and none where it is there already or the symbol is no register.
+/// A list with one register more. It is none if the list has the register already, or the symbol is no register.
 fn with_one_more(list: u16, symbol: Symbol) -> Option<u16>
     requires { IsLow symbol }
     ensures { result ≡ with_one_more list (register_in symbol) }
@@ -43,7 +43,7 @@ fn has(list: u16, number: u8) -> bool
     (list >> number) % 2 == 1
 }
 
-/// A list with a register that isn't in it.
+/// A list with a register that it doesn't have yet.
 fn more(list: u16, number: u8) -> u16
     requires low { number < 16 }
     requires new { is_bit_set list number ≡ false }

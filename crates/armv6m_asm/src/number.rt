@@ -1,9 +1,9 @@
-//! Numbers and addresses, as words.
+//! Words that are numbers or addresses.
 ghost use Rattle.std.specs.Prelude.{◌≡◌, ◌≤◌, ◌<◌, ◌^◌, ℕ, MatchOption};
 ghost use Rattle.std.specs.Str.Parse.{IsNumeral, digits_value};
 ghost use Rattle.armv6m_asm.specs.Statement.{IsNumber, IsAddress};
 
-/// The number below 2^32 that a word is: decimal digits, or `0x` and hexadecimal digits.
+/// Reads a word as a number below 2^32: decimal digits, or `0x` and hexadecimal digits.
 pub(crate) fn read_number(word: &[u8]) -> Option<u32>
     ensures { MatchOption result ((value : ℕ) → IsNumber word.now value → ⊥) (λ value. IsNumber word.now value) }
 {
@@ -13,10 +13,10 @@ pub(crate) fn read_number(word: &[u8]) -> Option<u32>
     }
 }
 
-/// How many bytes an address has.
+/// How many bytes a written address has.
 const ADDRESS_LEN: usize = 10;
 
-/// The address that a word is: `0x` and eight hexadecimal digits.
+/// Reads a word as an address: `0x` and eight hexadecimal digits.
 pub(crate) fn read_address(word: &[u8]) -> Option<u32>
     ensures { MatchOption result ((address : ℕ) → IsAddress word.now address → ⊥) (λ address. IsAddress word.now address) }
 {
@@ -29,7 +29,7 @@ pub(crate) fn read_address(word: &[u8]) -> Option<u32>
     }
 }
 
-/// The number below 2^32 that digits of a radix write, at least one.
+/// Reads digits of a radix, at least one, as a number below 2^32.
 fn read_digits(digits: &[u8], radix: u32) -> Option<u32>
     requires low { 2 ≤ radix }
     requires high { radix ≤ 36 }

@@ -13,14 +13,14 @@ use crate::symbol::{
 };
 use armv6m_forms::Operands;
 
-/// The operands that a text spells, and none where it spells none.
+/// The operands that a text spells, or none.
 pub(crate) fn read_operands(line: &[u8]) -> Option<Operands>
     ensures { MatchOption result ((operands : Operands) → Spell operands (tokens_of line.now) → ⊥) (λ operands. Spell operands (tokens_of line.now)) }
 {
     operands_of_line(line)
 }
 
-/// The operands by what the tokens are.
+/// Reads the operands of a line by its tokens.
 #[tactic(auto, unfolding(crate::specs::Reading::operands_of))]
 fn operands_of_line(line: &[u8]) -> Option<Operands>
     ensures { result ≡ operands_of (symbols_of line.now) }
@@ -117,7 +117,7 @@ fn at_end(operands: Operands, line: &[u8]) -> Option<Operands>
     }
 }
 
-/// The operands behind a special register.
+/// The operands that begin with this special register.
 fn to_special(special: u8, line: &[u8]) -> Option<Operands>
     ensures { result ≡ to_special special (symbols_of line.now) }
 {
@@ -125,7 +125,7 @@ fn to_special(special: u8, line: &[u8]) -> Option<Operands>
     at_end(Operands::ToSpecial { special, n }, rest)
 }
 
-/// The operands behind this register and an exclamation mark.
+/// The operands that begin with this register and an exclamation mark.
 fn updated(n: u8, line: &[u8]) -> Option<Operands>
     ensures { result ≡ updated n (symbols_of line.now) }
 {
@@ -133,7 +133,7 @@ fn updated(n: u8, line: &[u8]) -> Option<Operands>
     Some(Operands::UpdatedList { n, list })
 }
 
-/// The operands behind this register, a comma and an opening bracket.
+/// The operands that begin with this register, a comma and an opening bracket.
 fn in_brackets(t: u8, line: &[u8]) -> Option<Operands>
     ensures { result ≡ in_brackets t (symbols_of line.now) }
 {
@@ -141,7 +141,7 @@ fn in_brackets(t: u8, line: &[u8]) -> Option<Operands>
     indexed(t, n, skip_comma(rest)?)
 }
 
-/// The operands behind this register, an opening bracket, this register and a comma.
+/// The operands that begin with register `t`, a comma, an opening bracket, register `n` and a comma.
 fn indexed(t: u8, n: u8, line: &[u8]) -> Option<Operands>
     ensures { result ≡ indexed t n (symbols_of line.now) }
 {

@@ -15,7 +15,7 @@ use crate::token::{is_end, split_word};
 use armv6m_decode::Instr;
 use armv6m_forms::{Aim, instruction, read_branch, read_mnemonic};
 
-/// The operation that a text is, and none where it is none.
+/// Reads a text as an operation.
 pub(crate) fn read_operation(line: &[u8]) -> Option<Operation<'_>>
     ensures { MatchOption result ((operation : Operation) → AreOperation operation (tokens_of line.now) → ⊥)
         (λ operation. AreOperation operation (tokens_of line.now)) }
@@ -27,7 +27,7 @@ pub(crate) fn read_operation(line: &[u8]) -> Option<Operation<'_>>
     operation_of(first, rest)
 }
 
-/// The operation that begins with this word.
+/// Reads an operation by its first word and the text after it.
 fn operation_of<'a>(first: &[u8], rest: &'a [u8]) -> Option<Operation<'a>>
     ensures { MatchOption result ((operation : Operation) → AreOperation operation (word first.now ∷ tokens_of rest.now) → ⊥)
         (λ operation. AreOperation operation (word first.now ∷ tokens_of rest.now)) }
@@ -45,14 +45,14 @@ fn operation_of<'a>(first: &[u8], rest: &'a [u8]) -> Option<Operation<'a>>
     }
 }
 
-/// Whether this is `.align`.
+/// Whether the words are `.align` and nothing else.
 fn is_align(first: &[u8], rest: &[u8]) -> bool
     ensures { IsTrue result ↔ Are (exactly (codes ".align") ∷ []) (word first.now ∷ tokens_of rest.now) }
 {
     first == b".align".as_slice() && is_end(rest)
 }
 
-/// The value behind `.word`.
+/// The value of a `.word`.
 fn read_word(first: &[u8], rest: &[u8]) -> Option<u32>
     ensures { MatchOption result ((value : ℕ) → Are (exactly (codes ".word") ∷ number value ∷ []) (word first.now ∷ tokens_of rest.now) → ⊥)
         (λ value. Are (exactly (codes ".word") ∷ number value ∷ []) (word first.now ∷ tokens_of rest.now)) }
@@ -68,7 +68,7 @@ fn read_word(first: &[u8], rest: &[u8]) -> Option<u32>
     }
 }
 
-/// The instruction without a destination.
+/// Reads an instruction without a destination.
 fn read_plain(first: &[u8], rest: &[u8]) -> Option<Instr>
     ensures { MatchOption result ((instr : Instr) → ArePlain instr (word first.now ∷ tokens_of rest.now) → ⊥)
         (λ instr. ArePlain instr (word first.now ∷ tokens_of rest.now)) }
@@ -78,7 +78,7 @@ fn read_plain(first: &[u8], rest: &[u8]) -> Option<Instr>
     instruction(mnemonic, operands)
 }
 
-/// The instruction with a destination.
+/// Reads an instruction with a destination.
 fn read_aimed<'a>(first: &[u8], rest: &'a [u8]) -> Option<(Aim, Destination<'a>)>
     ensures { MatchOption result ((aim : Aim) (to : Destination) → AreAimed aim to (word first.now ∷ tokens_of rest.now) → ⊥)
         (λ aimed. AreAimed aimed.0 aimed.1 (word first.now ∷ tokens_of rest.now)) }

@@ -12,7 +12,7 @@ use crate::statement::{Operation, Statement, read_statement};
 use octets::next_line;
 use std::alloc::Global;
 
-/// Reads each line as a statement; the first one that can't be read is at fault.
+/// Reads each line as a statement. The fault names the first line that can't be read.
 pub(crate) fn read_all(alloc: Global, text: &[u8]) -> Result<Vec<Statement<'_>>, AsmFault>
     ensures ok { IfOk result (λ statements. ReadsAll (lines_of text.now) statements.items) }
     ensures err { IfErr result (IsReadFault (lines_of text.now)) }
@@ -34,7 +34,7 @@ pub(crate) fn read_all(alloc: Global, text: &[u8]) -> Result<Vec<Statement<'_>>,
     Ok(statements)
 }
 
-/// The fault of the line behind so many.
+/// The fault of the line that comes after `before` other lines.
 fn bad_line(before: usize) -> AsmFault
     requires { before < 2 ^ 63 }
     ensures { result ≡ AsmFault.BadWord (before + 1) }
@@ -44,7 +44,7 @@ fn bad_line(before: usize) -> AsmFault
     }
 }
 
-/// The statement of a line at a place.
+/// Reads a line at a place as a statement.
 fn read_line(line: &[u8], place: u32) -> Option<Statement<'_>>
     ensures cases { MatchOption result (IsBad line.now place) (IsRight line.now place) }
     ensures usable { IfSome result IsUsable }
@@ -57,7 +57,7 @@ fn read_line(line: &[u8], place: u32) -> Option<Statement<'_>>
     }
 }
 
-/// Whether it is a `.word` that doesn't stand at a multiple of 4.
+/// Whether an operation is a `.word` at a place that isn't a multiple of 4.
 fn is_askew(operation: &Operation, place: u32) -> bool
     ensures askew { IsTrue result ↔ (IsAligned operation.now place → ⊥) }
     ensures aligned { (result ≡ false) → IsAligned operation.now place }

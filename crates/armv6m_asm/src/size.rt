@@ -8,7 +8,7 @@ use crate::statement::Operation;
 use armv6m_decode::{Branch, Instr, Other};
 use armv6m_forms::Aim;
 
-/// The place behind a statement. It doesn't go past the last address, 0xFFFF_FFFF.
+/// The place after a statement. It may not go past the last address, 0xFFFF_FFFF.
 pub(crate) fn place_behind(operation: &Operation, place: u32) -> Result<u32, AsmFault>
     ensures ok { IfOk result (λ behind. behind ≡ place + size_of operation.now place) }
     ensures fits { IfOk result (λ behind. behind < 2 ^ 32) }

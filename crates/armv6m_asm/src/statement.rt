@@ -10,7 +10,7 @@ use crate::token::{skip_mark, split_word};
 use armv6m_decode::Instr;
 use armv6m_forms::Aim;
 
-/// What an instruction's destination is written as.
+/// The destination of an instruction as the text has it.
 #[derive(Clone, Copy)]
 pub enum Destination<'a> {
     /// The name of a label.
@@ -22,13 +22,13 @@ pub enum Destination<'a> {
 /// What a statement does at its place.
 #[derive(Clone, Copy)]
 pub enum Operation<'a> {
-    /// Nothing: there is only a label, or a comment, or neither.
+    /// Nothing: the line has only a label, only a comment, both, or neither.
     Nothing,
     /// `.word value`: four bytes.
     Word {
         value: u32,
     },
-    /// `.align`: pads to a multiple of 4 with `NOP`.
+    /// `.align`: pads with `NOP` to a multiple of 4.
     Align,
     /// An instruction without a destination.
     Plain {
@@ -41,14 +41,14 @@ pub enum Operation<'a> {
     },
 }
 
-/// A line's statement.
+/// The statement of a line.
 #[derive(Clone, Copy)]
 pub struct Statement<'a> {
     pub label: Option<&'a [u8]>,
     pub operation: Operation<'a>,
 }
 
-/// The statement that a line is, and none where it is none.
+/// Reads a line as a statement.
 pub(crate) fn read_statement(line: &[u8]) -> Option<Statement<'_>>
     ensures { MatchOption result ((statement : Statement) → IsStatement line.now statement → ⊥) (λ statement. IsStatement line.now statement) }
 {

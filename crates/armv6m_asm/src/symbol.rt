@@ -1,4 +1,4 @@
-//! What the tokens of operands are.
+//! What a token means among operands.
 ghost use Rattle.std.specs.Prelude.{◌≡◌, ◌↔◌, [], ◌∷◌, ◌<◌, codes, Some, None, IsTrue, IfSome, MatchOption};
 ghost use Rattle.armv6m_asm.specs.Reading.{symbol_of, symbols_of, mark_symbol, IsLow, register_first, number_first, behind_comma, behind_open_brace};
 ghost use Rattle.armv6m_asm.specs.Reading.{behind_close_bracket};
@@ -9,12 +9,12 @@ use crate::number::read_number;
 use crate::token::{Token, split_token};
 use armv6m_forms::{read_register, read_special};
 
-/// What a token is among operands.
+/// What a token means among operands.
 #[derive(Clone, Copy)]
 pub(crate) enum Symbol {
     /// A register, 0 to 15.
     Register { number: u8 },
-    /// A special register: APSR, MSP or PRIMASK, by the manual's SYSm.
+    /// A special register, by the manual's SYSm: APSR, MSP or PRIMASK.
     Special { number: u8 },
     /// A number below 2^32.
     Number { value: u32 },
@@ -27,11 +27,11 @@ pub(crate) enum Symbol {
     CloseBracket,
     OpenBrace,
     CloseBrace,
-    /// A token that operands don't have.
+    /// A token that no operand has.
     Other,
 }
 
-/// The first symbol of a line and what follows it, and none where no token is left.
+/// The first symbol of a line and what follows it.
 pub(crate) fn split_symbol(line: &[u8]) -> Option<(Symbol, &[u8])>
     ensures split { MatchOption result (symbols_of line.now ≡ []) (λ split. symbols_of line.now ≡ split.0 ∷ symbols_of split.1.now) }
     ensures low { IfSome result (λ split. IsLow split.0) }
@@ -97,7 +97,7 @@ pub(crate) fn skip_close_bracket(line: &[u8]) -> Option<&[u8]>
     }
 }
 
-/// What a token is among operands.
+/// What a token means among operands.
 fn symbol_of_token(token: Token) -> Symbol
     ensures symbol { result ≡ symbol_of (token_of token.entry) }
     ensures low { IsLow result }
@@ -108,7 +108,7 @@ fn symbol_of_token(token: Token) -> Symbol
     }
 }
 
-/// What a word is among operands.
+/// What a word means among operands.
 fn symbol_of_word(bytes: &[u8]) -> Symbol
     ensures symbol { result ≡ symbol_of (word bytes.now) }
     ensures low { IsLow result }
@@ -126,14 +126,14 @@ fn symbol_of_word(bytes: &[u8]) -> Symbol
     }
 }
 
-/// Whether a word is the flag of CPS.
+/// Whether a word is the flag `i` of CPS.
 fn is_interrupts(word: &[u8]) -> bool
     ensures { IsTrue result ↔ (word.now ≡ codes "i") }
 {
     word == b"i".as_slice()
 }
 
-/// What another byte is among operands.
+/// What a byte that belongs to no word means among operands.
 fn symbol_of_mark(byte: u8) -> Symbol
     ensures symbol { result ≡ mark_symbol byte }
     ensures low { IsLow result }

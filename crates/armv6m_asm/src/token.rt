@@ -9,11 +9,11 @@ ghost use Rattle.armv6m_asm.specs.Scanned.{token_of};
 pub(crate) enum Token<'a> {
     /// A run of letters, digits, underscores and dots.
     Word { bytes: &'a [u8] },
-    /// Another byte that is no blank.
+    /// Any other byte that isn't a blank.
     Mark { byte: u8 },
 }
 
-/// The first token of a line and what follows it, and none where no token is left.
+/// The first token of a line and what follows it.
 pub(crate) fn split_token(line: &[u8]) -> Option<(Token<'_>, &[u8])>
     ensures { MatchOption result (tokens_of line.now ≡ []) (λ split. tokens_of line.now ≡ token_of split.0 ∷ tokens_of split.1.now) }
 {
@@ -42,7 +42,7 @@ pub(crate) fn split_word(line: &[u8]) -> Option<(&[u8], &[u8])>
     }
 }
 
-/// What follows the mark that a line begins with, where it is this byte.
+/// What follows a mark, if the line begins with this one.
 pub(crate) fn skip_mark(line: &[u8], wanted: u8) -> Option<&[u8]>
     ensures { MatchOption result ((rest : List Piece) → tokens_of line.now ≢ mark wanted ∷ rest)
         (λ rest. tokens_of line.now ≡ mark wanted ∷ tokens_of rest.now) }
@@ -76,7 +76,7 @@ fn blank_len(line: &[u8]) -> usize
     line.iter().take_while(|byte| is_blank(**byte)).count()
 }
 
-/// How many bytes the word has that a text begins with.
+/// How many bytes the first word of a text has.
 fn word_len(text: &[u8]) -> usize
     ensures len { result ≡ prefix_len is_of_word text.now }
     ensures within { result ≤ length text.now }

@@ -1,4 +1,4 @@
--- Which rows matter to each group of halfwords that the decoder tells apart by their top bits.
+-- Which rows matter to each group of halfwords that the decoder separates by their top bits.
 use Rattle.std.proofs.Common.{◌≡◌, ℕ, ◌/◌, ◌<◌, ◌^◌, arith}
 use Rattle.armv6m_decode.specs.Rows.{first_fit}
 use Rattle.armv6m_decode.specs.Table.{rows, decoded, op_or_undefined}

@@ -20,7 +20,7 @@ condition_code LessThan = 11
 condition_code GreaterThan = 12
 condition_code LessOrEqual = 13
 
--- the condition with a code; no row has one above 13
+-- the condition with a code; no row has a code above 13
 unfoldable pub condition_of : ℕ → Condition
 condition_of code =
     if nat_eq code 0 then Equal else

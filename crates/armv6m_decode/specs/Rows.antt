@@ -1,8 +1,8 @@
--- Rows of an instruction table, and which of them fits a halfword, or a pair of halfwords.
+-- Rows of an instruction table, and which row fits a halfword or a pair of halfwords.
 use Rattle.std.specs.Prelude.{◌≡◌, ℕ, ◌+◌, ◌-◌, ◌/◌, ◌%◌, ◌^◌, Bool, IsTrue, nat_eq, ◌&&◌, List, [], ◌∷◌, Option, Some, None, slice_get, bit_and, if◌then◌else◌}
 use Rattle.armv6m_decode.specs.declared.instr.Instr.{Instr}
 
--- A halfword fits a row where its bits under the mask are the row's value. The form makes the instruction from the halfword.
+-- A halfword fits a row if its bits under the mask are the row's value. The row's form makes the instruction from the halfword.
 pub record Row : Type 0 where
   pub value : ℕ
   pub mask : ℕ
@@ -14,22 +14,22 @@ row value mask form = record { value = value; mask = mask; form = form }
 abbrev pub fits : Row → ℕ → Bool
 fits r half = nat_eq (bit_and half r.mask) r.value
 
--- the number in the bits of a halfword from high down to low, which the manual writes half<high:low>
+-- the bits of a halfword from `high` down to `low`, as a number: the manual's half<high:low>
 abbrev pub bits : ℕ → ℕ → ℕ → ℕ
 bits high low half = half / 2 ^ low % 2 ^ (high - low + 1)
 
--- the instruction of the first row that fits
+-- the instruction of the first row that fits a halfword
 abbrev pub first_fit : List Row → ℕ → Option Instr
 first_fit [] half = None
 first_fit (r ∷ rs) half = if fits r half then Some (r.form half) else first_fit rs half
 
--- no two rows fit one halfword, so that the first row that fits is the one that does
+-- no two rows fit one halfword, so the first row that fits is the only one
 abbrev pub AtMostOneFits : List Row → Type 0
 AtMostOneFits rows = (i j half : ℕ) (r s : Row) → slice_get rows i ≡ Some r → slice_get rows j ≡ Some s → IsTrue (fits r half) → IsTrue (fits s half) → i ≡ j
 
 -- ---- pairs of halfwords
 
--- a pair fits where the first halfword fits value and mask, and the second those of its own
+-- A pair of halfwords fits a row if each halfword fits its own value and mask.
 pub record PairRow : Type 0 where
   pub value : ℕ
   pub mask : ℕ

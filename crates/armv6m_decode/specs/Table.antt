@@ -1,5 +1,5 @@
--- The instructions of Armv6-M with their encodings: Armv6-M Architecture Reference Manual, A5.2 "16-bit Thumb instruction
--- encoding" and A5.3 "32-bit Thumb instruction encoding". After each row stands the manual's name of the encoding (A6.7).
+-- The instructions of Armv6-M with their encodings: Armv6-M Architecture Reference Manual, A5.2 "16-bit Thumb instruction encoding" and
+-- A5.3 "32-bit Thumb instruction encoding". The manual's name of the encoding (A6.7) follows each row.
 use Rattle.std.specs.Prelude.{◌≡◌, ℕ, ◌+◌, ◌*◌, ◌/◌, ◌^◌, ◌<◌, ◌≤◌, nat_eq, nat_le, List, [], ◌∷◌, Option, Some, None, if◌then◌else◌}
 use Rattle.armv6m_decode.specs.declared.instr.Instr.{Instr}
 use Rattle.armv6m_decode.specs.declared.instr.Instr.TheVariants as instr
@@ -20,11 +20,11 @@ use Rattle.armv6m_alu.specs.Bits.{is_bit_set}
 use Rattle.armv6m_decode.specs.Conditions.{condition_of}
 use Rattle.armv6m_decode.specs.Rows.{Row, row, PairRow, pair_row, bits, first_fit, first_fit_pair, AtMostOneFits, AtMostOneFitsPair}
 
--- a register of four bits whose highest is bit 7: the manual's DN:Rdn
+-- the number of a register with its highest bit in bit 7 and the others in bits 2 to 0: the manual's DN:Rdn
 abbrev pub high_register : ℕ → ℕ
 high_register h = bits 7 7 h * 8 + bits 2 0 h
 
--- NOT(J EOR S) for two bits
+-- NOT(J EOR S) of two bits
 abbrev pub not_exclusive_or : ℕ → ℕ → ℕ
 not_exclusive_or j s = if nat_eq j s then 1 else 0
 
@@ -37,7 +37,7 @@ branch_offset g h =
     + bits 9 0 g * 2 ^ 11
     + bits 10 0 h
 
--- The instructions of one halfword h. Value and mask can't say 'condition below 14', so the conditional branch has three rows.
+-- The instructions of one halfword h. No single value and mask can say 'condition below 14', so the conditional branch has three rows.
 unfoldable pub rows : List Row
 rows =
     -- A5.2.1 Shift (immediate), add, subtract, move, and compare
@@ -145,8 +145,8 @@ abbrev pub op_or_undefined : Option Instr → Decoded
 op_or_undefined None = Undefined
 op_or_undefined (Some i) = Op i
 
--- A halfword begins a pair where its top five bits are 11101, 11110 or 11111 (A5.1). Any other is the instruction of the row
--- that it fits, and undefined where it fits none.
+-- A halfword begins a pair if its top five bits are 11101, 11110 or 11111 (A5.1). Any other halfword is the instruction of the row that it
+-- fits, or undefined if it fits none.
 unfoldable pub decoded : ℕ → Decoded
 decoded half = if nat_le 29 (half / 2 ^ 11) then NeedsSecond else op_or_undefined (first_fit rows half)
 
@@ -161,6 +161,6 @@ OneRowForEach = AtMostOneFits rows
 abbrev pub OneRowForEachPair : Type 0
 OneRowForEachPair = AtMostOneFitsPair pair_rows
 
--- no row fits a halfword that begins a pair
+-- a halfword that begins a pair fits no row
 abbrev pub NoRowBeginsPair : Type 0
 NoRowBeginsPair = (half : ℕ) → half < 2 ^ 16 → 29 ≤ half / 2 ^ 11 → first_fit rows half ≡ None

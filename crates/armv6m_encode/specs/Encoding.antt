@@ -1,4 +1,4 @@
--- The encoding of an instruction: the halfword, or the pair of halfwords, that the decoder's table reads as it.
+-- The encoding of an instruction: the halfword, or the pair, that the decoder's table reads as this instruction.
 use Rattle.std.specs.Prelude.{◌≡◌, Bool, true, ◌&&◌, nat_lt, Some}
 use Rattle.armv6m_decode.specs.declared.instr.Instr.{Instr}
 use Rattle.armv6m_decode.specs.declared.instr.Instr.TheVariants as instr
@@ -22,7 +22,7 @@ abbrev pub IsEncodedAs : Instr → Encoding → Type 0
 IsEncodedAs i (Half half) = decoded half ≡ Op i
 IsEncodedAs i (Pair first second) = (decoded first ≡ NeedsSecond) × (decoded_pair first second ≡ Some i)
 
--- each field of the instruction fits the bits that its row has for it
+-- whether each field of an instruction fits the bits that its row has for it
 abbrev pub fields_fit : Instr → Bool
 fields_fit (instr.Alu (LslsImmediate d m immediate)) = nat_lt d 8 && nat_lt m 8 && nat_lt immediate 32
 fields_fit (instr.Alu (LsrsImmediate d m immediate)) = nat_lt d 8 && nat_lt m 8 && nat_lt immediate 32

@@ -196,7 +196,7 @@ fn subs_immediate_8(d: u8, immediate: u8) -> u16
     0x3800 + u16::from(d) * 0x100 + u16::from(immediate)
 }
 
-/// AND (register) T1.
+/// Bitwise AND (register) T1.
 #[tactic(auto, using(armv6m_decode::proofs::Near::data_processing, armv6m_decode::proofs::Masks::masks), unfolding(armv6m_decode::specs::Table::rows))]
 fn ands(d: u8, m: u8) -> u16
     requires d_fits { d < 8 }

@@ -22,7 +22,7 @@ use Rattle.armv6m_forms.proofs.RowLemmas.{row_from_special, row_to_special}
 
 -- ---- a row that is read as its form
 
--- as far as the fields fit
+-- an instruction stands for a form at every address, if its fields fit
 abbrev Stands : Instr → Form → Type 0
 Stands i form = IsTrue (fields_fit i) → (at : ℕ) → StandsFor i at form
 

@@ -25,11 +25,11 @@ use Rattle.armv6m_forms.specs.declared.form.Form.TheVariants.{Plain, Aimed}
 
 -- ---- operands
 
--- a shift to the right by an immediate of 0 is one by 32
+-- the amount of a right shift by an immediate: 0 means 32
 abbrev pub right_shift : ℕ → ℕ
 right_shift immediate = if nat_eq immediate 0 then 32 else immediate
 
--- a list of the low registers, with one more
+-- a list of registers, with one more register if it is there
 abbrev pub with_register : Bool → ℕ → ℕ → ℕ
 with_register there register list = if there then list + 2 ^ register else list
 
@@ -111,7 +111,7 @@ form_of (instr.Other Sev) at = Plain mnemonic.Sev None
 form_of (instr.Many (Stm n list)) at = Plain mnemonic.Stm (UpdatedList n list)
 form_of (instr.Many (Ldm n list)) at = Plain mnemonic.Ldm (BaseList n list)
 form_of (instr.Branch (Bcc condition immediate)) at = Aimed (BranchIf condition) (branch_target 8 at immediate)
--- the operand of UDF and SVC isn't written: both end as undefined whatever it is
+-- the operand of UDF and SVC isn't written: both end as undefined with any operand
 form_of (instr.Other (Udf immediate)) at = Plain mnemonic.Udf None
 form_of (instr.Other (Svc immediate)) at = Plain mnemonic.Svc None
 form_of (instr.Branch (B immediate)) at = Aimed Branch (branch_target 11 at immediate)
@@ -124,29 +124,29 @@ form_of (instr.Other Isb) at = Plain mnemonic.Isb None
 
 -- ---- from a form to its instruction
 
--- a second form that is read: LSLS by 0, as it stands in its row
+-- a second form that is read for one instruction: LSLS by 0, as its row has it
 abbrev pub IsReadToo : Instr → Form → Type 0
 IsReadToo (instr.Alu (LslsImmediate d m immediate)) form = (immediate ≡ 0) × (form ≡ Plain mnemonic.Lsls (TwoImmediate d m 0))
 IsReadToo _ form = ⊥
 
--- The instruction that is made where several have one form: CMP of two low registers is encoding T1, since T2 is
--- UNPREDICTABLE there (A6.7.28), and UDF and SVC have the operand 0.
+-- Whether an instruction is the one made for its form, where several have one form. CMP of two low registers is encoding T1, since T2 is
+-- UNPREDICTABLE there (A6.7.28). UDF and SVC have the operand 0.
 abbrev pub is_made : Instr → Bool
 is_made (instr.Alu (CmpHigh n m)) = not (nat_lt n 8 && nat_lt m 8)
 is_made (instr.Other (Udf immediate)) = nat_eq immediate 0
 is_made (instr.Other (Svc immediate)) = nat_eq immediate 0
 is_made _ = true
 
--- an instruction that stands at an address for a form
+-- the instruction at an address that is made for a form
 pub record StandsFor (instr : Instr) (at : ℕ) (form : Form) : Type 0 where
   pub fields : IsTrue (fields_fit instr)
   pub made : IsTrue (is_made instr)
   pub written : (form_of instr at ≡ form) ⊎ IsReadToo instr form
 
--- no instruction does
+-- no instruction at an address is made for a form
 abbrev pub HasNoInstruction : ℕ → Form → Type 0
 HasNoInstruction at form = (instr : Instr) → StandsFor instr at form → ⊥
 
--- a form has one instruction at most
+-- a form at an address has at most one instruction
 abbrev pub OneInstructionForEach : Type 0
 OneInstructionForEach = (first second : Instr) (at : ℕ) (form : Form) → StandsFor first at form → StandsFor second at form → first ≡ second

@@ -1,4 +1,4 @@
--- Words for what a form is read as.
+-- Terms for the instruction that a form is read as.
 use Rattle.std.specs.Prelude.{ℕ, ◌-◌, ◌/◌, ◌%◌, ◌^◌, ◌&&◌, nat_eq, nat_lt, nat_le, if◌then◌else◌, Option, Some, None, MatchOption}
 use Rattle.armv6m_decode.specs.declared.instr.Instr.{Instr}
 use Rattle.armv6m_forms.specs.declared.mnemonic.Mnemonic.{Mnemonic}
@@ -6,15 +6,15 @@ use Rattle.armv6m_forms.specs.declared.mnemonic.Mnemonic.TheVariants as mnemonic
 use Rattle.armv6m_forms.specs.declared.form.Form.{Form}
 use Rattle.armv6m_forms.specs.Form.{StandsFor, HasNoInstruction}
 
--- the instruction that stands for a form without a target, wherever it is, or that none does
+-- the instruction that stands for a form without a target at every address, or none if no instruction does at any
 abbrev pub IsReadAs : Form → Option Instr → Type 0
 IsReadAs form result = MatchOption result ((at : ℕ) → HasNoInstruction at form) (λ instr. (at : ℕ) → StandsFor instr at form)
 
--- the same of a form with a target, at an address
+-- the instruction that stands at an address for a form with a target, or none if no instruction does
 abbrev pub IsReadAt : ℕ → Form → Option Instr → Type 0
 IsReadAt at form result = MatchOption result (HasNoInstruction at form) (λ instr. StandsFor instr at form)
 
--- how many bytes the field of an immediate counts: those of the words or halfwords that the text's number is made of
+-- how many bytes one unit of a mnemonic's immediate field is: a word, a halfword or a byte
 abbrev pub scale_of : Mnemonic → ℕ
 scale_of mnemonic.Add = 4
 scale_of mnemonic.Sub = 4
@@ -24,11 +24,11 @@ scale_of mnemonic.Strh = 2
 scale_of mnemonic.Ldrh = 2
 scale_of _ = 1
 
--- the field of eight bits that counts a number in units
+-- a number as a field of eight bits that counts units, if it fits
 abbrev pub counted : ℕ → ℕ → Option ℕ
 counted unit number = if nat_eq (number % unit) 0 && nat_lt (number / unit) 256 then Some (number / unit) else None
 
--- the field that, read as signed, counts the halfwords of a distance modulo 2^32, which is less than a span of bytes in either direction
+-- a distance modulo 2^32 as a signed field that counts halfwords, if it is less than `span` bytes in either direction
 abbrev pub halved : ℕ → ℕ → Option ℕ
 halved span distance =
     if nat_eq (distance % 2) 0

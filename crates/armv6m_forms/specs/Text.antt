@@ -1,4 +1,4 @@
--- The text of a form, as the manual's assembler syntax has it (A6.7), with a blank behind the mnemonic and behind each comma.
+-- The text of a form in the manual's assembler syntax (A6.7), with a blank after the mnemonic and after each comma.
 use Rattle.std.specs.Prelude.{◌≡◌, ◌⊎◌, ℕ, List, [], ◌++◌, codes, decimal, nat_eq, if◌then◌else◌}
 use Rattle.std.specs.List.{filter, range_with_len, join_by}
 use Rattle.octets.specs.Digit.{hex_text}
@@ -104,7 +104,7 @@ aim_text BranchLink = codes "BL"
 aim_text (Load t) = codes "LDR"
 aim_text (Address d) = codes "ADR"
 
--- a register (A5.1.2); numbers from 16 on, which no instruction has, are written likewise
+-- the name of a register (A5.1.2); a number from 16 on, which no instruction has, is written the same way
 unfoldable pub register_text : ℕ → List ℕ
 register_text register =
     if nat_eq register SP then codes "SP" else if nat_eq register LR then codes "LR" else if nat_eq register PC then codes "PC"
@@ -115,24 +115,24 @@ register_text register =
 abbrev pub comma_text : List ℕ
 comma_text = codes ", "
 
--- an immediate, in decimal
+-- the text of an immediate, in decimal
 unfoldable pub immediate_text : ℕ → List ℕ
 immediate_text immediate = codes "#" ++ decimal immediate
 
--- the special registers that this profile has, by their numbers (B5.1.1); any other is written by its number
+-- the name of a special register that this profile has (B5.1.1); any other is written by its number
 unfoldable pub special_text : ℕ → List ℕ
 special_text special =
     if nat_eq special APSR then codes "APSR" else if nat_eq special MSP then codes "MSP"
     else if nat_eq special PRIMASK then codes "PRIMASK" else immediate_text special
 
--- the registers below an end whose bits are set, in rising order
+-- the registers below `end` with their bit set, in rising order
 unfoldable pub listed_below : ℕ → ℕ → List ℕ
 listed_below end list = filter (λ register. is_bit_set list register) (range_with_len 0 end)
 
 unfoldable pub list_text : ℕ → List ℕ
 list_text list = codes "{" ++ join_by register_text comma_text (listed_below 16 list) ++ codes "}"
 
--- the address of a target
+-- the text of a target's address
 unfoldable pub target_text : ℕ → List ℕ
 target_text target = codes "0x" ++ hex_text 8 target
 
@@ -153,7 +153,7 @@ operands_text Interrupts = codes "i"
 operands_text (FromSpecial d special) = register_text d ++ comma_text ++ special_text special
 operands_text (ToSpecial special n) = special_text special ++ comma_text ++ register_text n
 
--- the register that stands before a target, with its comma
+-- the register before a target, with its comma
 unfoldable pub aim_register : Aim → List ℕ
 aim_register (Load t) = register_text t ++ comma_text
 aim_register (Address d) = register_text d ++ comma_text
@@ -161,7 +161,7 @@ aim_register _ = []
 
 -- ---- forms
 
--- the mnemonic, and a blank and the operands where there are any
+-- the text of a form: its mnemonic, then a blank and its operands if it has any
 unfoldable pub form_text : Form → List ℕ
 form_text (Plain m None) = text_of m
 form_text (Plain m operands) = text_of m ++ codes " " ++ operands_text operands
@@ -169,7 +169,7 @@ form_text (Aimed aim target) = aim_text aim ++ codes " " ++ aim_register aim ++ 
 
 -- ---- reading words
 
--- a mnemonic that stands alone before its target
+-- a mnemonic that has only a target as its operand
 abbrev pub IsBranch : Aim → Type 0
 IsBranch (Load t) = ⊥
 IsBranch (Address d) = ⊥

@@ -1,4 +1,4 @@
--- An instruction over a bus of which each access is a function of what one sees of the bus: the same instruction over what one sees.
+-- An instruction over a bus runs as the same instruction over a view of the bus, if each access is a function of that view.
 use Rattle.std.proofs.Common.{◌≡◌, ℕ, Bool, true, false, Ok, Err, Result, MatchResult, inl, inr, ◌⊎◌, refl, subst, ap, ◌∙◌, ⊎_elim}
 use Rattle.std.proofs.lemmas.Bool.{or_left, or_right}
 use Rattle.bench_model.specs.declared.bench_fault.BusEnd.{BusEnd}
@@ -73,13 +73,13 @@ module _ {B W : Type 0} (acts : B → Access → Result ℕ BusEnd → B → Typ
             (alone b access (Err x) mid act)
       ]) runs.1 runs.2 runs.3
 
-  -- the same of the instruction at the PC
+  -- the instruction at the PC runs as over the view, or ends by a device fault at an access that passes the test
   pub tested_step : (core core' : Core) (b b' : B) (e : StepEnd) → Runs acts (instruction core) core b e core' b' →
       ((e ≡ end.Device) × (step_makes answers test core (view b) ≡ true) × Excuse) ⊎ (seen e core' (view b') ≡ step_of answers core (view b))
   unfolding step_of step_makes
   tested_step core core' b b' e runs = one_outcome (instruction core) core core' b b' e runs
 
--- and without a test
+-- the instruction at the PC runs as over the view, or ends by a device fault
 module _ {B W : Type 0} (acts : B → Access → Result ℕ BusEnd → B → Type 0) (answers : Answering W) (view : B → W) (Excuse : Type 0)
     (alone : (b : B) (access : Access) (answer : Result ℕ BusEnd) (b' : B) → acts b access answer b'
     → ((answer ≡ Err bus_end.Device) × Excuse) ⊎ ((answer ≡ (answers (view b) access).0) × (view b' ≡ (answers (view b) access).1))) where

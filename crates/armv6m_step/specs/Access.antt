@@ -2,7 +2,7 @@
 use Rattle.std.specs.Prelude.{ℕ, Result, Ok, Err}
 use Rattle.bench_model.specs.declared.bench_fault.BusEnd.{BusEnd}
 
--- a load or a store of so many bytes: 1, 2 or 4
+-- a load or a store of `width` bytes: 1, 2 or 4
 pub data Access : Type 0 where
   Load : (width at : ℕ) → Access
   Store : (width at value : ℕ) → Access

@@ -1,9 +1,9 @@
--- The arms of a quick step: the halfwords that each is for.
+-- The arms of a quick step, and the halfwords of each.
 use Rattle.std.specs.Prelude.{ℕ, ◌≤◌}
 use Rattle.armv6m_step.specs.declared.arms.Arm.{Arm}
 use Rattle.armv6m_step.specs.declared.arms.Arm.TheVariants as arm
 
--- the first halfword and the last of each arm; any halfword may go without one
+-- the first halfword and the last of each arm; a quick step may leave any halfword to the full step
 unfoldable pub range_of : Arm → ℕ × ℕ
 range_of arm.LslsImmediate = (0x0000, 0x07FF)
 range_of arm.LsrsImmediate = (0x0800, 0x0FFF)

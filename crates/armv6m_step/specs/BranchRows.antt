@@ -16,7 +16,7 @@ use Rattle.armv6m_step.specs.ListRows.{branch_exchange}
 abbrev pub same : Bool → Bool → Bool
 same a b = if a then b else not b
 
--- what each condition asks of the flags (A6.3)
+-- whether a condition holds of the flags (A6.3)
 abbrev pub holds : Core → Condition → Bool
 holds core Equal = core.z
 holds core NotEqual = not core.z
@@ -33,7 +33,7 @@ holds core LessThan = not (same core.n core.v)
 holds core GreaterThan = not core.z && same core.n core.v
 holds core LessOrEqual = core.z || not (same core.n core.v)
 
--- LR is the next instruction's address with bit 0 set
+-- a core with LR as a call sets it: the next instruction's address with bit 0 set
 abbrev pub linked : Core → ℕ → Core
 linked core next = written core LR (sum next 1)
 

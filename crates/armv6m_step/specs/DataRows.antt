@@ -17,38 +17,38 @@ use Rattle.armv6m_step.specs.Ends.{Undefined, Outcome}
 use Rattle.armv6m_step.specs.Registers.{reg, written, moved, with_nz, with_carry, with_nzcv, pc_of}
 use Rattle.armv6m_step.specs.Numbers.{sum}
 
--- a value into d, with N and Z
+-- writes a value to register d, and sets N and Z
 abbrev pub value_into : Core → ℕ → ℕ → ℕ → Outcome
 value_into core next d value = Ok (moved (with_nz (written core d value) value) next)
 
--- a shifted value into d, with N, Z and C
+-- writes a shifted value to register d, and sets N, Z and C
 abbrev pub shift_into : Core → ℕ → ℕ → Shifted → Outcome
 shift_into core next d s = Ok (moved (with_carry (with_nz (written core d s.value) s.value) s.carry) next)
 
--- a sum into d, with N, Z, C and V
+-- writes a sum to register d, and sets N, Z, C and V
 abbrev pub sum_into : Core → ℕ → ℕ → Sum → Outcome
 sum_into core next d s = Ok (moved (with_nzcv (written core d s.value) s) next)
 
--- N, Z, C and V of a sum, and no register
+-- sets N, Z, C and V by a sum, and writes no register
 abbrev pub compared : Core → ℕ → Sum → Outcome
 compared core next s = Ok (moved (with_nzcv core s) next)
 
--- N and Z of a value, and no register
+-- sets N and Z by a value, and writes no register
 abbrev pub tested : Core → ℕ → ℕ → Outcome
 tested core next value = Ok (moved (with_nz core value) next)
 
--- a value into d, with no flags; into the PC it is a branch, with bit 0 cleared (ALUWritePC)
+-- writes a value to register d, and sets no flags; a write to the PC is a branch with bit 0 cleared (ALUWritePC)
 abbrev pub plain_into : Core → ℕ → ℕ → ℕ → Outcome
 plain_into core next d value = if nat_eq d PC then Ok (moved core (value / 2 * 2)) else Ok (moved (written core d value) next)
 
 abbrev pub undefined_at : Core → Outcome
 undefined_at core = Err (Undefined (pc_of core))
 
--- x - y
+-- x - y as a sum with its flags
 abbrev pub subtraction : ℕ → ℕ → Sum
 subtraction x y = sum_with_carry x (bit_not w32 y) true
 
--- a right shift by 0 in the instruction stands for one by 32 (DecodeImmShift)
+-- the amount of a right shift by an immediate: 0 means 32 (DecodeImmShift)
 abbrev pub shift_amount : ℕ → ℕ
 shift_amount immediate = if nat_eq immediate 0 then 32 else immediate
 

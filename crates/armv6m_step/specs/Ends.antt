@@ -1,4 +1,4 @@
--- How an instruction ends.
+-- How one instruction ends.
 use Rattle.std.specs.Prelude.{ℕ, Bool, true, false, Result, Ok, Err}
 use Rattle.bench_model.specs.declared.bench_fault.BusEnd.{BusEnd}
 use Rattle.bench_model.specs.declared.bench_fault.BusEnd.TheVariants as bus_end
@@ -9,14 +9,14 @@ use Rattle.armv6m_step.specs.declared.ends.StepEnd.{StepEnd}
 use Rattle.armv6m_step.specs.declared.ends.StepEnd.TheVariants as end
 use Rattle.armv6m_step.specs.Access.{Access, address}
 
--- The ends that an instruction has by itself. A bus fault and a device fault are not among them: they come from the bus alone.
+-- The ends that an instruction has by itself. Bus faults and device faults aren't among them: they come from the bus.
 pub data OwnEnd : Type 0 where
   Break : (pc : ℕ) → OwnEnd
   Undefined : (pc : ℕ) → OwnEnd
   Unaligned : (at : ℕ) → OwnEnd
   BadState : (pc : ℕ) → OwnEnd
 
--- what an instruction without accesses gives: the core after it, or an end
+-- the result of an instruction without accesses: the core after it, or an end
 abbrev pub Outcome : Type 0
 Outcome = Result Core OwnEnd
 
@@ -26,7 +26,7 @@ own_end (Undefined pc) = end.Undefined pc
 own_end (Unaligned at) = end.Unaligned at
 own_end (BadState pc) = end.BadState pc
 
--- the end of an instruction whose access the bus did not answer
+-- the end of an instruction at an access that the bus didn't answer
 abbrev pub bus_end_at : ℕ → BusEnd → StepEnd
 bus_end_at at bus_end.Fault = end.BusFault at
 bus_end_at at bus_end.Device = end.Device
@@ -34,7 +34,7 @@ bus_end_at at bus_end.Device = end.Device
 abbrev pub access_end : Access → BusEnd → StepEnd
 access_end access e = bus_end_at (address access) e
 
--- a stop as the end of a step
+-- the end of a step for each stop within it
 abbrev pub stop_end : Stop → StepEnd
 stop_end (stop.Break pc) = end.Break pc
 stop_end (stop.Undefined pc) = end.Undefined pc

@@ -1,4 +1,4 @@
--- Over a bus that answers in one way alone, an instruction has one outcome, which is computed.
+-- Over a bus that gives one answer to each access, an instruction has one outcome, which can be computed.
 use Rattle.std.specs.Prelude.{ℕ, Bool, false, ◌||◌, Result, Ok, Err}
 use Rattle.bench_model.specs.declared.bench_fault.BusEnd.{BusEnd}
 use Rattle.armv6m_step.specs.declared.core_state.Core.{Core}
@@ -34,20 +34,20 @@ outcome answers (Asks access then') core bus =
     (λ v. outcome answers (then' v) core (answers bus access).1)
     (λ x. record { ends = access_end access x; core = core; bus = (answers bus access).1 })
 
--- one instruction over such a bus
+-- the result of the instruction at the PC over such a bus
 unfoldable pub step_of : {B : Type 0} → Answering B → Core → B → Stepped B
 step_of answers core bus = outcome answers (instruction core) core bus
 
--- whether an instruction, each of its accesses answered in turn by such a bus, makes one that passes a test
+-- whether an instruction over such a bus makes an access that passes a test
 unfoldable pub makes : {B : Type 0} → Answering B → (B → Access → Bool) → Meaning → B → Bool
 makes answers test (Gives o) bus = false
 makes answers test (Asks access then') bus =
     test bus access || follow (answers bus access).0 (λ v. makes answers test (then' v) (answers bus access).1) (λ x. false)
 
--- whether the instruction at the PC does
+-- whether the instruction at the PC makes an access that passes a test
 unfoldable pub step_makes : {B : Type 0} → Answering B → (B → Access → Bool) → Core → B → Bool
 step_makes answers test core bus = makes answers test (instruction core) bus
 
--- the end of a step, the core and what one sees of the bus, in one value
+-- the end of a step, its core and a view of its bus, as one value
 abbrev pub seen : {W : Type 0} → StepEnd → Core → W → Stepped W
 seen e core w = record { ends = e; core = core; bus = w }

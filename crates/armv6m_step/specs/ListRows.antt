@@ -13,16 +13,16 @@ use Rattle.armv6m_step.specs.Numbers.{sum, difference}
 use Rattle.armv6m_step.specs.MemoryRows.{went}
 use Rattle.armv6m_step.specs.Meaning.{Meaning, Gives, Acts, Runs, load, store, stops}
 
--- of count registers from the first on, those whose bit is set, in rising order
+-- the registers with their bit set in a list, in rising order, of the `count` registers from `first` on
 unfoldable pub listed : ℕ → ℕ → ℕ → List ℕ
 listed zero first list = []
 listed (suc count) first list = if is_bit_set list first then first ∷ listed count (first + 1) list else listed count (first + 1) list
 
--- the low registers of a list
+-- the low registers of a list, R0 to R7
 abbrev pub low_registers : ℕ → List ℕ
 low_registers list = listed 8 0 list
 
--- how many bytes they take
+-- how many bytes the low registers of a list take
 abbrev pub list_bytes : ℕ → ℕ
 list_bytes list = 4 * length (low_registers list)
 
@@ -34,12 +34,12 @@ unfoldable pub load_each : Core → ℕ → List ℕ → (Core → Meaning) → 
 load_each core at [] then' = then' core
 load_each core at (r ∷ rs) then' = load 4 at (λ v. load_each (written core r v) (sum at 4) rs then')
 
--- A branch whose target has bit 0 set; with bit 0 clear the core would leave the Thumb state (BXWritePC). The instruction's
--- address is that of the end.
+-- A branch to a target with bit 0 set. With bit 0 clear the core would leave the Thumb state (BXWritePC), so the step ends at this
+-- instruction's address.
 abbrev pub branch_exchange : ℕ → Core → ℕ → Outcome
 branch_exchange pc core target = if nat_eq (target % 2) 1 then Ok (moved core (target - 1)) else Err (BadState pc)
 
--- the stores go from the new SP on, LR last
+-- PUSH: the stores go up from the new SP, LR last
 abbrev pub push : Core → ℕ → Bool → ℕ → Meaning
 push core next lr list =
     let by = list_bytes list + (if lr then 4 else 0) in
@@ -48,7 +48,7 @@ push core next lr list =
     store_each core start (low_registers list)
     (if lr then store 4 (sum start (list_bytes list)) (reg core LR) (went (written core SP start) next) else went (written core SP start) next)
 
--- the loads go from SP on, PC last
+-- POP: the loads go up from SP, PC last
 abbrev pub pop : Core → ℕ → Bool → ℕ → Meaning
 pop core next pc list =
     let by = list_bytes list + (if pc then 4 else 0) in
@@ -64,13 +64,13 @@ many core next (Pop pc list) = pop core next pc list
 many core next (Stm n list) =
     if nat_eq (list_bytes list) 0 then stops (Undefined (pc_of core)) else
     store_each core (reg core n) (low_registers list) (went (written core n (sum (reg core n) (list_bytes list))) next)
--- a base in the list isn't written back
+-- LDM doesn't write the base back if the base is in the list
 many core next (Ldm n list) =
     if nat_eq (list_bytes list) 0 then stops (Undefined (pc_of core)) else
     load_each core (reg core n) (low_registers list) (λ filled.
     went (if is_bit_set list (n % 16) then filled else written filled n (sum (reg core n) (list_bytes list))) next)
 
--- ---- what the parts of a list give: how a run goes on from the last access, or that it ends there
+-- ---- the parts of a list: after them a run continues from the last access, or ends there
 
 unfoldable pub StoresEach : {B : Type 0} → Acts B → Core → ℕ → List ℕ → B → Result (Unit {0}) Stop → B → Type 0
 StoresEach {B} acts core at rs before (Ok x) mid =
@@ -84,12 +84,12 @@ LoadsEach {B} acts core at rs before (Ok filled) mid =
     → Runs acts (load_each core at rs then') core before e core' after
 LoadsEach acts core at rs before (Err s) after = (then' : Core → Meaning) → Runs acts (load_each core at rs then') core before (stop_end s) core after
 
--- a core that was loaded in place, where no load stopped
+-- a core whose registers were loaded in place, if no load stopped
 abbrev pub all_loaded : Core → Result (Unit {0}) Stop → Result Core Stop
 all_loaded core (Ok x) = Ok core
 all_loaded core (Err s) = Err s
 
--- the core after an instruction, which is the one before it where the instruction stopped
+-- the core after an instruction, or the one before it if the instruction stopped
 abbrev pub unless_stopped : Core → Core → Result (Unit {0}) Stop → Core
 unless_stopped before after (Ok x) = after
 unless_stopped before after (Err s) = before

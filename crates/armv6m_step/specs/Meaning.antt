@@ -1,4 +1,4 @@
--- What an instruction does: it gives a core or an end, or it asks something of the bus and goes on from the answer.
+-- What an instruction does: it gives a core or an end, or it makes an access and continues with the answer.
 use Rattle.std.specs.Prelude.{◌≡◌, ℕ, ◌%◌, nat_eq, if◌then◌else◌, Result, Ok, Err, MatchResult, ◌⊎◌, true, false}
 use Rattle.bench_model.specs.declared.bench_fault.BusEnd.{BusEnd}
 use Rattle.armv6m_step.specs.declared.core_state.Core.{Core}
@@ -15,24 +15,24 @@ pub data Meaning : Type 0 where
 abbrev pub stops : OwnEnd → Meaning
 stops e = Gives (Err e)
 
--- a load or a store: at an address that isn't a multiple of its width the instruction ends, and the bus isn't asked
+-- a load or a store: if its address isn't a multiple of its width, the instruction ends and the bus isn't asked
 unfoldable pub load : ℕ → ℕ → (ℕ → Meaning) → Meaning
 load width at then' = if nat_eq (at % width) 0 then Asks (Load width at) then' else stops (Unaligned at)
 
 unfoldable pub store : ℕ → ℕ → ℕ → Meaning → Meaning
 store width at value then' = if nat_eq (at % width) 0 then Asks (Store width at value) (λ _. then') else stops (Unaligned at)
 
--- what a bus may do at an access: from before, give the answer and leave after
+-- what a bus may do at an access: the bus before it, the access, the answer, and the bus after it
 abbrev pub Acts : Type 0 → Type 1
 Acts B = B → Access → Result ℕ BusEnd → B → Type 0
 
--- the end and the core of an outcome; an instruction that ends otherwise than Went leaves the core as it was
+-- the end and the core that an outcome leaves; an instruction that ends other than by Went leaves the core as it was
 abbrev pub Leaves : Outcome → Core → StepEnd → Core → Type 0
 Leaves (Ok core') core e after = (e ≡ end.Went) × (after ≡ core')
 Leaves (Err own) core e after = (e ≡ own_end own) × (after ≡ core)
 
--- From a core and a bus, an instruction of this meaning may end so and leave this core and this bus: the bus goes through the
--- accesses one by one, up to the first that it does not answer.
+-- An instruction of this meaning, from a core and a bus, may end this way and leave this core and this bus. The bus answers the accesses
+-- one by one, up to the first that it doesn't answer.
 unfoldable pub Runs : {B : Type 0} → Acts B → Meaning → Core → B → StepEnd → Core → B → Type 0
 Runs acts (Gives outcome) core bus e core' bus' = Leaves outcome core e core' × (bus' ≡ bus)
 Runs {B} acts (Asks access then') core bus e core' bus' =
@@ -41,7 +41,7 @@ Runs {B} acts (Asks access then') core bus e core' bus' =
 
 -- ---- what one access at any address gives
 
--- an access that is refused before it is made, or that the bus does not answer
+-- an access that is refused before it is made, or that the bus doesn't answer
 abbrev pub Refused : {B : Type 0} → Acts B → ℕ → Access → B → Stop → B → Type 0
 Refused acts width access before s after =
     ((nat_eq (address access % width) 0 ≡ false) × (stop_end s ≡ end.Unaligned (address access)) × (after ≡ before))

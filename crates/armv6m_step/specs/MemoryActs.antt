@@ -1,4 +1,4 @@
--- The test of a bus of bytes in memory. No device is behind it, so none fails.
+-- What a bus of bytes in memory does at an access. It has no device, so no access ends by a device fault.
 use Rattle.std.specs.Prelude.{◌≡◌, ℕ, false, Option, Some, None, Result, List}
 use Rattle.std.proofs.Common.{arith, refl, ap, ◌∙◌}
 use Rattle.bench_model.specs.declared.bench_fault.BusEnd.{BusEnd}
@@ -24,7 +24,7 @@ unfolding ram_answer
 none_fails r (Load width at) = load_fails_none r (loaded_from r width at)
 none_fails r (Store width at v) = store_fails_none r (stored_in r width at v)
 
--- the bus counts no faults
+-- a bus of bytes in memory counts no faults
 pub memory_counted : (before : Ram) (access : Access) (answer : Result ℕ BusEnd) (after : Ram) → memory_acts before access answer after
     → IsCounted 0 0 (is_device answer)
 memory_counted before access answer after acts =

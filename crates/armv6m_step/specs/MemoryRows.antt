@@ -12,15 +12,15 @@ use Rattle.armv6m_step.specs.Registers.{reg, written, moved, pc_of}
 use Rattle.armv6m_step.specs.Numbers.{sum}
 use Rattle.armv6m_step.specs.Meaning.{Meaning, Gives, load, store}
 
--- the instruction is done, and the next one follows
+-- the instruction is done, and the next one is at `next`
 abbrev pub went : Core → ℕ → Meaning
 went core next = Gives (Ok (moved core next))
 
--- a loaded value into the register t
+-- a loaded value is written to register t
 abbrev pub loaded : Core → ℕ → ℕ → ℕ → Meaning
 loaded core next t value = went (written core t value) next
 
--- R[t] = MemU[at,4], and the other widths and signs
+-- R[t] = MemU[at,4], and loads of the other widths and signs
 unfoldable pub load_word : Core → ℕ → ℕ → ℕ → Meaning
 load_word core next t at = load 4 at (λ v. loaded core next t v)
 

@@ -14,7 +14,7 @@ use Rattle.armv6m_step.specs.Registers.{reg, written, moved, pc_of}
 use Rattle.armv6m_step.specs.Numbers.{sum, difference}
 use Rattle.armv6m_step.specs.DataRows.{undefined_at}
 
--- a value into d, with no flags
+-- writes a value to register d, and sets no flags
 abbrev pub put : Core → ℕ → ℕ → ℕ → Outcome
 put core next d value = Ok (moved (written core d value) next)
 
@@ -36,11 +36,11 @@ with_flags_of core x = record core { n = is_bit_set x 31; z = is_bit_set x 30; c
 unfoldable pub with_primask : Core → Bool → Core
 with_primask core on = record core { primask = on }
 
--- SP and PC, which MRS and MSR may not name
+-- whether a register is SP or PC, which MRS and MSR may not name
 abbrev pub is_sp_or_pc : ℕ → Bool
 is_sp_or_pc r = nat_eq r SP || nat_eq r PC
 
--- by the special register's number
+-- MRS: writes the special register with this number to register d
 abbrev pub read_special : Core → ℕ → ℕ → ℕ → Outcome
 read_special core next d special =
     if is_sp_or_pc d then undefined_at core else

@@ -1,5 +1,5 @@
--- Bytes at the addresses from a base on, little-endian: where an access lies in them, what it reads and what it writes, and how a
--- bus of nothing else answers.
+-- Bytes at the addresses from a base on, little-endian: which bytes an access is to, what it reads and writes, and how a bus of these bytes
+-- alone answers.
 use Rattle.std.specs.Prelude.{ℕ, ◌+◌, ◌-◌, ◌*◌, ◌/◌, ◌%◌, ◌||◌, nat_eq, nat_lt, if◌then◌else◌, Option, Some, None, Result, Ok, Err, List, length, slice_index}
 use Rattle.std.specs.Prelude.{slice_set, option_map}
 use Rattle.bench_model.specs.declared.bench_fault.BusEnd.{BusEnd}
@@ -13,7 +13,7 @@ pub record Ram : Type 0 where
 abbrev pub ram_at : ℕ → List ℕ → Ram
 ram_at base bytes = record { base = base; bytes = bytes }
 
--- the index of the first byte of an access that lies in the bytes
+-- the index of the first byte of an access, if the access is within the bytes
 abbrev pub place_of : ℕ → ℕ → ℕ → ℕ → Option ℕ
 place_of base len at width = if nat_lt at base || nat_lt (base + len) (at + width) then None else Some (at - base)
 
@@ -29,11 +29,11 @@ bytes_with bytes width i v =
     if nat_eq width 2 then slice_set (slice_set bytes i (v % 0x100)) (i + 1) (v / 0x100) else
     slice_set (slice_set (slice_set (slice_set bytes i (v % 0x100)) (i + 1) (v / 0x100 % 0x100)) (i + 2) (v / 0x10000 % 0x100)) (i + 3) (v / 0x1000000)
 
--- the value that a load reads, where it lies in the bytes
+-- the value that a load reads, if it is within the bytes
 abbrev pub loaded_from : Ram → ℕ → ℕ → Option ℕ
 loaded_from r width at = option_map (λ i. value_at r.bytes width i) (place_of r.base (length r.bytes) at width)
 
--- the bytes that a store leaves, where it lies in them
+-- the bytes that a store leaves, if it is within them
 abbrev pub stored_in : Ram → ℕ → ℕ → ℕ → Option (List ℕ)
 stored_in r width at v = option_map (λ i. bytes_with r.bytes width i v) (place_of r.base (length r.bytes) at width)
 
@@ -45,7 +45,7 @@ abbrev pub store_answer : Ram → Option (List ℕ) → Result ℕ BusEnd × Ram
 store_answer r None = (Err Fault, r)
 store_answer r (Some bytes) = (Ok 0, record r { bytes = bytes })
 
--- an access that lies in the bytes is answered, and every other is a bus fault
+-- an access within the bytes is answered, and any other is a bus fault
 unfoldable pub ram_answer : Ram → Access → Result ℕ BusEnd × Ram
 ram_answer r (Load width at) = load_answer r (loaded_from r width at)
 ram_answer r (Store width at v) = store_answer r (stored_in r width at v)

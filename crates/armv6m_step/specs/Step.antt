@@ -1,4 +1,4 @@
--- One instruction: the loads of the fetch, and then the meaning of the row that fits.
+-- One instruction: the loads of the fetch, then the meaning of the row that fits.
 use Rattle.std.specs.Prelude.{ℕ, Option, Some, None}
 use Rattle.armv6m_decode.specs.declared.instr.Instr.{Instr}
 use Rattle.armv6m_decode.specs.declared.instr.Instr.TheVariants as instr
@@ -16,7 +16,7 @@ use Rattle.armv6m_step.specs.BranchRows.{branch}
 use Rattle.armv6m_step.specs.OtherRows.{other}
 use Rattle.armv6m_step.specs.Meaning.{Meaning, Gives, load, stops}
 
--- what an instruction means where the next one is at `next`
+-- the meaning of an instruction, if the one after it is at `next`
 abbrev pub meaning : Core → ℕ → Instr → Meaning
 meaning core next (instr.Alu op) = Gives (alu core next op)
 meaning core next (instr.Memory op) = memory core next op
@@ -33,6 +33,6 @@ of_halfword core half (decoded_as.Op op) = meaning core (sum (pc_of core) 2) op
 of_halfword core half decoded_as.NeedsSecond = load 2 (sum (pc_of core) 2) (λ second. of_pair core (decoded_pair half second))
 of_halfword core half decoded_as.Undefined = stops (Undefined (pc_of core))
 
--- the instruction at the PC
+-- the meaning of the instruction at the PC
 unfoldable pub instruction : Core → Meaning
 instruction core = load 2 (pc_of core) (λ half. of_halfword core half (decoded half))

@@ -126,7 +126,7 @@ pub(crate) fn peek16<B: Bus>(bus: &B, at: u32) -> Option<u32>
     bus.peek16(at)
 }
 
-/// As `peek16`, for the first halfword of an instruction.
+/// The first halfword of an instruction, where the bus has it at hand.
 #[inline(always)]
 pub(crate) fn fetch16<B: Bus>(bus: &B, at: u32) -> Option<u32>
     ensures gives { IfSome result (λ v. LoadGives B.acts 2 at bus.now (Ok v) bus.now) }
@@ -135,7 +135,7 @@ pub(crate) fn fetch16<B: Bus>(bus: &B, at: u32) -> Option<u32>
     bus.fetch16(at)
 }
 
-/// As `load8`, whose result is taken here: its place is cleared only where it is called.
+/// Loads a byte by `load8`. It matches the result here, so that the slot for it is cleared only where the call is made.
 #[inline(always)]
 pub(crate) fn far_load8<B: Bus>(bus: &mut B, at: u32) -> Result<u32, Stop>
     ensures gives { LoadGives B.acts 1 at bus.old result bus.new }
@@ -147,7 +147,7 @@ pub(crate) fn far_load8<B: Bus>(bus: &mut B, at: u32) -> Result<u32, Stop>
     }
 }
 
-/// As `load8`, in line where the bus has it at hand.
+/// Loads a byte, in line where the bus has it at hand.
 #[inline(always)]
 pub(crate) fn byte_at<B: Bus>(bus: &mut B, at: u32) -> Result<u32, Stop>
     ensures gives { LoadGives B.acts 1 at bus.old result bus.new }
@@ -159,7 +159,7 @@ pub(crate) fn byte_at<B: Bus>(bus: &mut B, at: u32) -> Result<u32, Stop>
     far_load8(bus, at)
 }
 
-/// As `load16`, whose result is taken here: its place is cleared only where it is called.
+/// Loads a halfword by `load16`. It matches the result here, so that the slot for it is cleared only where the call is made.
 #[inline(always)]
 pub(crate) fn far_load16<B: Bus>(bus: &mut B, at: u32) -> Result<u32, Stop>
     ensures gives { LoadGives B.acts 2 at bus.old result bus.new }
@@ -171,7 +171,7 @@ pub(crate) fn far_load16<B: Bus>(bus: &mut B, at: u32) -> Result<u32, Stop>
     }
 }
 
-/// As `load16`, in line where the bus has it at hand.
+/// Loads a halfword, in line where the bus has it at hand.
 #[inline(always)]
 pub(crate) fn half_at<B: Bus>(bus: &mut B, at: u32) -> Result<u32, Stop>
     ensures gives { LoadGives B.acts 2 at bus.old result bus.new }
@@ -183,7 +183,7 @@ pub(crate) fn half_at<B: Bus>(bus: &mut B, at: u32) -> Result<u32, Stop>
     far_load16(bus, at)
 }
 
-/// As `load32`, whose result is taken here: its place is cleared only where it is called.
+/// Loads a word by `load32`. It matches the result here, so that the slot for it is cleared only where the call is made.
 #[inline(always)]
 pub(crate) fn far_load32<B: Bus>(bus: &mut B, at: u32) -> Result<u32, Stop>
     ensures { LoadGives B.acts 4 at bus.old result bus.new }
@@ -194,7 +194,7 @@ pub(crate) fn far_load32<B: Bus>(bus: &mut B, at: u32) -> Result<u32, Stop>
     }
 }
 
-/// As `load32`, in line where the bus has it at hand.
+/// Loads a word, in line where the bus has it at hand.
 #[inline(always)]
 pub(crate) fn word_at<B: Bus>(bus: &mut B, at: u32) -> Result<u32, Stop>
     ensures { LoadGives B.acts 4 at bus.old result bus.new }
@@ -205,7 +205,7 @@ pub(crate) fn word_at<B: Bus>(bus: &mut B, at: u32) -> Result<u32, Stop>
     far_load32(bus, at)
 }
 
-/// As `store8`, whose result is taken here: its place is cleared only where it is called.
+/// Stores a byte by `store8`. It matches the result here, so that the slot for it is cleared only where the call is made.
 #[inline(always)]
 fn far_store8<B: Bus>(bus: &mut B, at: u32, value: u32) -> Result<(), Stop>
     requires { value < 2 ^ 8 }
@@ -217,7 +217,7 @@ fn far_store8<B: Bus>(bus: &mut B, at: u32, value: u32) -> Result<(), Stop>
     }
 }
 
-/// As `store8`, in line where the bus has it at hand.
+/// Stores a byte, in line where the bus has it at hand.
 #[inline(always)]
 pub(crate) fn byte_to<B: Bus>(bus: &mut B, at: u32, value: u32) -> Result<(), Stop>
     requires { value < 2 ^ 8 }
@@ -229,7 +229,7 @@ pub(crate) fn byte_to<B: Bus>(bus: &mut B, at: u32, value: u32) -> Result<(), St
     far_store8(bus, at, value)
 }
 
-/// As `store16`, whose result is taken here: its place is cleared only where it is called.
+/// Stores a halfword by `store16`. It matches the result here, so that the slot for it is cleared only where the call is made.
 #[inline(always)]
 fn far_store16<B: Bus>(bus: &mut B, at: u32, value: u32) -> Result<(), Stop>
     requires { value < 2 ^ 16 }
@@ -241,7 +241,7 @@ fn far_store16<B: Bus>(bus: &mut B, at: u32, value: u32) -> Result<(), Stop>
     }
 }
 
-/// As `store16`, in line where the bus has it at hand.
+/// Stores a halfword, in line where the bus has it at hand.
 #[inline(always)]
 pub(crate) fn half_to<B: Bus>(bus: &mut B, at: u32, value: u32) -> Result<(), Stop>
     requires { value < 2 ^ 16 }
@@ -253,7 +253,7 @@ pub(crate) fn half_to<B: Bus>(bus: &mut B, at: u32, value: u32) -> Result<(), St
     far_store16(bus, at, value)
 }
 
-/// As `store32`, whose result is taken here: its place is cleared only where it is called.
+/// Stores a word by `store32`. It matches the result here, so that the slot for it is cleared only where the call is made.
 #[inline(always)]
 fn far_store32<B: Bus>(bus: &mut B, at: u32, value: u32) -> Result<(), Stop>
     ensures { StoreGives B.acts 4 at value bus.old result bus.new }
@@ -264,7 +264,7 @@ fn far_store32<B: Bus>(bus: &mut B, at: u32, value: u32) -> Result<(), Stop>
     }
 }
 
-/// As `store32`, in line where the bus has it at hand.
+/// Stores a word, in line where the bus has it at hand.
 #[inline(always)]
 pub(crate) fn word_to<B: Bus>(bus: &mut B, at: u32, value: u32) -> Result<(), Stop>
     ensures { StoreGives B.acts 4 at value bus.old result bus.new }

@@ -26,7 +26,7 @@ pub(crate) enum Arm {
     AddsImmediate,
     /// SUB (immediate), of eight bits.
     SubsImmediate,
-    /// AND (register).
+    /// Bitwise AND (register).
     Ands,
     /// EOR (register).
     Eors,

@@ -12,7 +12,7 @@ pub trait Bus {
     /// From before, the bus may give this answer to the access and go on to after.
     ghost acts: { Self → Access → Result ℕ BusEnd → Self → Type 0 };
 
-    /// How often the device behind the bus has failed.
+    /// How often the device on the bus has failed.
     ghost faults: { Self → ℕ };
 
     /// Loads a byte.
@@ -47,7 +47,7 @@ pub trait Bus {
         requires { at % 4 ≡ 0 }
         ensures { acts self.old (Store 4 at value) (stored result) self.new };
 
-    /// As `peek16`, for the first halfword of an instruction.
+    /// The first halfword of an instruction, where the bus has it at hand. The halfword is as `peek16` gives it.
     fn fetch16(&self, at: u32) -> Option<u32>
         ensures even { IfSome result (λ v. at % 2 ≡ 0) }
         ensures acts { IfSome result (λ v. acts self.now (Load 2 at) (Ok v) self.now) }

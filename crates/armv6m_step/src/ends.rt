@@ -17,7 +17,7 @@ pub enum StepEnd {
     Unaligned { at: u32 },
     /// A branch would leave the Thumb state.
     BadState { pc: u32 },
-    /// The device behind the bus failed, and the bus has counted it.
+    /// The device on the bus failed, and the bus has counted the fault.
     Device,
 }
 

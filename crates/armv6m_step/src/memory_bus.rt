@@ -7,8 +7,8 @@ use crate::{Bus, Core, StepEnd, ram, step};
 use bench_model::BusEnd;
 use std::marker::Model;
 
-/// Bytes at the addresses from a base on: a contract sees the two as a `Ram`. An access that lies in them is answered, and every
-/// other is a bus fault. There is no device behind it.
+/// Bytes at the addresses from a base on. A contract sees both as a `Ram`. An access to these bytes is answered, and any other is a bus
+/// fault. There is no device on this bus.
 #[derive(Drop)]
 pub struct MemoryBus {
     base: u32,

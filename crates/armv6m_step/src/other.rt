@@ -24,7 +24,7 @@ fn put_into(core: &mut Core, next: u32, d: u8, value: u32)
     core.go_to(next);
 }
 
-/// SP plus and minus so many words.
+/// SP plus a number of words.
 fn above_sp(core: &Core, count: u8) -> u32
     ensures { result ≡ sum (reg core.now SP) (4 * count) }
 {

@@ -212,7 +212,7 @@ fn subs_immediate(core: &mut Core, pc: u32, half: u16) -> Quick
     Quick::Went { pc: next }
 }
 
-/// AND.
+/// Bitwise AND.
 #[inline(always)]
 fn ands(core: &mut Core, pc: u32, half: u16) -> Quick
     ensures { Goes (alu core.old (sum pc 2) (Alu.Ands (bits 2 0 half) (bits 5 3 half))) core.new result }
@@ -712,7 +712,7 @@ fn quick_step<B: Bus>(core: &mut Core, bus: &mut B, pc: u32) -> Quick
     }
 }
 
-/// As `step`, out of line.
+/// Makes one step by `step`, out of line.
 #[inline(never)]
 fn step_out<B: Bus>(core: &mut Core, bus: &mut B) -> StepEnd
     ensures runs { Runs B.acts (instruction core.old) core.old bus.old result core.new bus.new }

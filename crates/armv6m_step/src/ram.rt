@@ -4,7 +4,7 @@
 ghost use Rattle.std.specs.Prelude.{◌≡◌, ◌≤◌, ◌<◌, ◌+◌, ◌^◌, true, false, Some, None, IfSome, if◌then◌else◌};
 ghost use Rattle.armv6m_step.specs.Ram.{ram_at, place_of, loaded_from, stored_in};
 
-/// The index of the first byte of an access that lies in so many bytes.
+/// The index of the first byte of an access to `len` bytes that begin at a base, if the access is within them.
 fn place(base: u32, len: usize, at: u32, width: u32) -> Option<usize>
     requires { width ≤ 4 }
     ensures value { result ≡ place_of base len at width }

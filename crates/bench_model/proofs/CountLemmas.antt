@@ -1,4 +1,4 @@
--- Counts of faults, one behind the other.
+-- Counts of faults that follow each other.
 use Rattle.std.proofs.Common.{◌≡◌, ◌≤◌, ℕ, Bool, true, false, subst, arith}
 use Rattle.faults.specs.Counts.{Rose}
 use Rattle.bench_model.specs.Counted.{IsCounted}

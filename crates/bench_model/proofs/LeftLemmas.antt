@@ -7,7 +7,7 @@ use Rattle.std.proofs.lemmas.Bool.{cases_lt}
 use Rattle.bench_model.specs.Calls.{written, Torn, Cut}
 use Rattle.bench_model.specs.Kept.{Kept, IsLeft, IsWritten, all_synced, after_write, after_cut}
 
--- the end of a list from a place on, so many bytes long
+-- `n` bytes of a list from a place on
 stretch : ℕ → ℕ → List ℕ → List ℕ
 stretch from n xs = take n (drop from (xs ++ replicate (from + n) 0))
 
@@ -108,7 +108,7 @@ module _ (k : Kept) (read : IsLeft k k.file) (enough : k.least ≤ length k.sync
           },
         )
 
-    -- it ends behind the range
+    -- a file that ends after the range
     behind : (f : List ℕ) → IsLeft (after_write at bytes k) f → at + length bytes < length f → Origin f
     behind f left past =
         let m = length bytes in
@@ -227,7 +227,7 @@ pub synced_only : (file f : List ℕ) → IsLeft (all_synced file) f → f ≡ f
 synced_only file f left = same_number_lists f file (omega (arith, left.no_shorter, left.no_longer))
     (λ i below. left.same i (omega (arith, below, left.no_longer)) (λ none. none))
 
--- and back: each file that came by the step is one that the rule allows, so that the two say the same
+-- each file that a step can make of an allowed file is allowed, so the rule and the steps agree
 module _ (k : Kept) where
   same_in_front : (n : ℕ) (d f : List ℕ) → take n f ≡ take n d → (i : ℕ) → i < n → get_or f i 0 ≡ get_or d i 0
   same_in_front n d f same i below = sym (get_or-take n f i 0 below) ∙ ap (λ (l : List ℕ). get_or l i 0) same ∙ get_or-take n d i 0 below

@@ -111,7 +111,7 @@ pub clear_inside : (marks : List Bool) (i : ℕ) → get_or marks i true ≡ fal
 clear_inside marks i clear = ⊎_elim (λ (within : i < length marks). within)
     (λ (past : length marks ≤ i). absurd (false≢true (sym clear ∙ get_or_past marks i true past))) (cases_lt i (length marks))
 
--- a file of which each byte is as its mark says
+-- a file where each byte is as its mark says
 pub filled_by_marks : (k : Kept) (synced : List ℕ) (marks : List Bool) → IsMarked k synced marks → (value : ℕ) (file : List ℕ) → length file ≡ length marks
     → ((i : ℕ) → i < length marks → get_or marks i true ≡ true → get_or file i 0 ≡ value)
     → ((i : ℕ) → i < length marks → get_or marks i true ≡ false → get_or file i 0 ≡ get_or synced i 0) → IsFilled value k file

@@ -208,7 +208,7 @@ module _ (r r' : Recorded) (e : Event) (is : r' ≡ noted e r) where
     now_left : (f : List ℕ) → IsLeft (held_now r).kept f → left (half_of FileOf r) f
     now_left f at = (half_now FileOf r f).1 at
 
-    -- the cells: what a stop leaves before and after is known by what is told
+    -- a step of the cells leaves what is known of the cells before it and after it
     pub told_leaves : (file' cells' : List ℕ) (op' : Option (ℕ × ℕ)) → InStep (after e (held_now r)) file' cells' op' → (P : List ℕ → Type 0)
         → ((x : List ℕ) → SameOutside op cells x → P x) → ((x : List ℕ) → SameOutside op' cells' x → P x) → Leaves (half_of CellsOf r) (half_of CellsOf r') P
     told_leaves file' cells' op' s' P before next = leaves_after CellsOf P

@@ -23,7 +23,7 @@ goes_then one two = record {
 at_now : (h : Half) (k : ℕ) (x : List ℕ) → h.now ≤ k → k ≤ h.now → h.at k x → left h x
 at_now h k x from to at = let is : k ≡ h.now = omega arith in subst (λ (n : ℕ). h.at n x) is at
 
--- One half, of which all that a stop leaves has P.
+-- One half, where P holds of all that a stop leaves.
 
 -- before the first call
 pub leaves_here : (h : Half) (P : List ℕ → Type 0) → ((x : List ℕ) → left h x → P x) → Leaves h h P
@@ -181,7 +181,7 @@ pairs_as R S to_s one = record {
 pub pairs_left : {a b : BenchState} (R : List ℕ → List ℕ → Type 0) → PairsLeave a b R → (file cells : List ℕ) → LeftSince b a.moment file cells → R file cells
 pairs_left R one f c (k, from, to, f_at, c_at) = one.each k f c from to f_at c_at
 
--- Two pieces of a run, of which the second begins at the turn.
+-- Two pieces of a run. The second begins at the turn.
 pub in_turn : {a b c : BenchState} (First Second : List ℕ → List ℕ → Type 0) → PairsLeave a b First → PairsLeave b c Second →
     PairsInTurn a c b.moment First Second
 in_turn First Second one two = record {

@@ -43,7 +43,7 @@ pub replay-push : (es : List Event) (e : Event) (h : Held) → replay (es ++ e �
 replay-push [] e h = refl
 replay-push (d ∷ es) e h = replay-push es e (after d h)
 
--- the same, of lists that are equal to these
+-- the events and the replay after one change more, for lists that are equal to these
 module _ (cs cs' : List Change) (c : Change) (bytes bytes' bs : List ℕ) (used : handed_all cs ≡ length bytes) (is : handed c ≡ length bs)
     (cs-is : cs' ≡ cs ++ c ∷ []) (bytes-is : bytes' ≡ bytes ++ bs) where
   pub events-after : events_of cs' bytes' ≡ events_of cs bytes ++ event_of c bs ∷ []

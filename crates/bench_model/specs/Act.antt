@@ -1,4 +1,4 @@
--- One call of a bench as it went: its arguments, the buffer before and after it where it reads, and its answer.
+-- One call of a bench as it went: its arguments, its answer, and for a read the buffer before and after it.
 use Rattle.std.specs.Prelude.{ℕ, List, Result}
 use Rattle.bench_model.specs.declared.bench_fault.StoreFault.{StoreFault}
 use Rattle.bench_model.specs.declared.bench_fault.DeviceFault.{DeviceFault}

@@ -1,6 +1,6 @@
--- What each call of a bench does, from the bench before it to the bench after it: its answer, what stands after it and
--- what a fault leaves, what a stop at any moment of it may leave of its own half, the other half, which stays, and the
--- count of faults. Where a bench doesn't tell its contents, only the moments, the other half and the counts are said.
+-- What each call of a bench does, from the bench before it to the bench after it: its answer, the contents after it and after a fault, what
+-- a stop during it may leave, and the count of faults. The other half stays. Where a bench doesn't show its contents, only the moments, the
+-- other half and the counts are stated.
 use Rattle.std.specs.Prelude.{◌≡◌, ℕ, List, Bool, length, take, drop, IsTrue, Result, IfOk, OnOk, OnErr, Some, None, IfSome}
 use Rattle.faults.specs.Counts.{HasCause}
 use Rattle.bench_model.specs.History.{left, Leaves, AddsNothing, LeftOnly}
@@ -18,7 +18,7 @@ pub record MeasuresFile (tells : Bool) (old new : BenchState) (result : Result �
   pub cells : CellsStay old new
   pub cause : HasCause old.store_faults new.store_faults result
 
--- on a fault the buffer, here before and after the call, holds any bytes
+-- A read of the file. On a fault the buffer (`before` and `after` the call) holds any bytes.
 pub record ReadsFile {T : Type 0} (tells : Bool) (old new : BenchState) (at : ℕ) (before after : List ℕ) (result : Result T StoreFault) : Type 0 where
   pub ok : IsTrue tells → OnOk result (after ≡ take (length before) (drop at old.file))
   pub file : IsTrue tells → new.file ≡ old.file
@@ -26,7 +26,7 @@ pub record ReadsFile {T : Type 0} (tells : Bool) (old new : BenchState) (at : �
   pub cells : CellsStay old new
   pub cause : HasCause old.store_faults new.store_faults result
 
--- a write at a place, and a stop of it, may leave it torn; so may a fault, in the file as read
+-- A write to the file. A stop or a fault may leave the file torn.
 pub record WritesFile {T : Type 0} (tells : Bool) (old new : BenchState) (at : ℕ) (bytes : List ℕ) (result : Result T StoreFault) : Type 0 where
   pub ok : IsTrue tells → OnOk result (new.file ≡ written at bytes old.file)
   pub err : IsTrue tells → OnErr result (Torn at (length bytes) old.file new.file)
@@ -34,7 +34,7 @@ pub record WritesFile {T : Type 0} (tells : Bool) (old new : BenchState) (at : �
   pub cells : CellsStay old new
   pub cause : HasCause old.store_faults new.store_faults result
 
--- a stop of a cut may leave any length that the file had, with any bytes from the cut on; a fault cuts a part
+-- A cut of the file. A stop may leave any length that the file had, with any bytes from the cut on. A fault may cut only a part.
 pub record CutsFile {T : Type 0} (tells : Bool) (old new : BenchState) (len : ℕ) (result : Result T StoreFault) : Type 0 where
   pub ok : IsTrue tells → OnOk result (new.file ≡ take len old.file)
   pub err : IsTrue tells → OnErr result (Shortened len old.file new.file)
@@ -42,7 +42,7 @@ pub record CutsFile {T : Type 0} (tells : Bool) (old new : BenchState) (len : �
   pub cells : CellsStay old new
   pub cause : HasCause old.store_faults new.store_faults result
 
--- after a sync a stop leaves the file as a read gives it; a fault leaves pending what was
+-- A sync of the file. After it a stop leaves the file as a read gives it. After a fault all that was pending still is.
 pub record SyncsFile {T : Type 0} (tells : Bool) (old new : BenchState) (result : Result T StoreFault) : Type 0 where
   pub ok : IsTrue tells → OnOk result (LeftOnly old.file (file_half new))
   pub file : IsTrue tells → new.file ≡ old.file
@@ -52,7 +52,7 @@ pub record SyncsFile {T : Type 0} (tells : Bool) (old new : BenchState) (result 
 
 -- The cells.
 
--- on a fault the buffer, here before and after the call, holds any bytes
+-- A read of the cells. On a fault the buffer (`before` and `after` the call) holds any bytes.
 pub record ReadsCells {T : Type 0} (tells : Bool) (old new : BenchState) (at : ℕ) (before after : List ℕ) (result : Result T DeviceFault) : Type 0 where
   pub ok : IsTrue tells → OnOk result (after ≡ take (length before) (drop at old.cells))
   pub cells : IsTrue tells → new.cells ≡ old.cells
@@ -62,8 +62,7 @@ pub record ReadsCells {T : Type 0} (tells : Bool) (old new : BenchState) (at : �
   pub file : FileStays old new
   pub cause : HasCause old.device_faults new.device_faults result
 
--- Opening only adds: all that a stop may leave meanwhile is among what one after it may leave. On a fault no operation
--- is open.
+-- Opening an operation on cells. Whatever a stop may leave during the call, it may also leave after it. On a fault no operation is open.
 pub record OpensCells {T : Type 0} (tells : Bool) (old new : BenchState) (at len : ℕ) (result : Result T DeviceFault) : Type 0 where
   pub ok : IsTrue tells → OnOk result (new.operation ≡ Some (at, len))
   pub err : IsTrue tells → OnErr result (new.operation ≡ None)
@@ -73,18 +72,17 @@ pub record OpensCells {T : Type 0} (tells : Bool) (old new : BenchState) (at len
   pub file : FileStays old new
   pub cause : HasCause old.device_faults new.device_faults result
 
--- the open operation goes on, over the same cells
+-- the operation stays open, over the same cells
 pub record StaysOpen (old new : BenchState) : Type 0 where
   pub operation : new.operation ≡ old.operation
   pub cells : new.cells ≡ old.cells
 
--- the operation ended with bytes in its range, told by its length
+-- the operation ended with bytes in its range, which are a function of the range's length
 pub record IsSettled (bytes : ℕ → List ℕ) (old new : BenchState) : Type 0 where
   pub operation : new.operation ≡ None
   pub cells : IfSome old.operation (λ range. new.cells ≡ written range.0 (bytes range.1) old.cells)
 
--- Ends the open operation with bytes in its range: those given, or as many of one value as it is long. On a fault it
--- stays open.
+-- Ends the open operation with bytes in its range: those given, or one value in each cell. On a fault it stays open.
 pub record SettlesCells {T : Type 0} (tells : Bool) (old new : BenchState) (bytes : ℕ → List ℕ) (result : Result T DeviceFault) : Type 0 where
   pub ok : IsTrue tells → OnOk result (IsSettled bytes old new)
   pub err : IsTrue tells → OnErr result (StaysOpen old new)
@@ -93,7 +91,7 @@ pub record SettlesCells {T : Type 0} (tells : Bool) (old new : BenchState) (byte
   pub file : FileStays old new
   pub cause : HasCause old.device_faults new.device_faults result
 
--- the operation was broken off: any bytes stand in its range
+-- the operation was broken off: its range holds any bytes
 pub record IsBrokenOff (old new : BenchState) : Type 0 where
   pub operation : new.operation ≡ None
   pub cells : SameOutside old.operation old.cells new.cells

@@ -1,9 +1,9 @@
--- What a job file in memory keeps for a stop of the power, and which files a stop may leave of it.
+-- What a file in memory keeps so that a stop can be played, and which files a stop may leave.
 use Rattle.std.specs.Prelude.{◌<◌, ◌≤◌, ◌+◌, ◌≡◌, ◌⊎◌, ℕ, List, [], ◌∷◌, length, take, max, min, slice_index}
 use Rattle.bench_model.specs.Calls.{written}
 
--- the file: as a read gives it, as the last sync left it, its least and greatest length since that sync, and the ranges
--- (place, length) that were written since then
+-- the file as a read gives it and as the last sync left it, its least and greatest length since that sync, and the ranges (place, length)
+-- written since then
 pub record Kept : Type 0 where
   pub file : List ℕ
   pub synced : List ℕ
@@ -24,23 +24,23 @@ after_write at bytes k = record k {
 abbrev pub after_cut : ℕ → Kept → Kept
 after_cut len k = record k { file = take len k.file; least = min k.least len }
 
--- a place lies in one of the ranges
+-- a place is in one of the written ranges
 abbrev pub IsWritten : List (ℕ × ℕ) → ℕ → Type 0
 IsWritten [] i = ⊥
 IsWritten (range ∷ ranges) i = ((range.0 ≤ i) × (i < range.0 + range.1)) ⊎ IsWritten ranges i
 
--- a byte is pending: it was written since the last sync, or lies from the least length since then on
+-- a byte is pending: it was written since the last sync, or is past the least length since then
 abbrev pub IsPending : Kept → ℕ → Type 0
 IsPending k i = IsWritten k.ranges i ⊎ (k.least ≤ i)
 
--- a stop may leave this file: its length is any from the least to the greatest since the last sync, pending bytes are
--- any bytes, and all others are as that sync left them
+-- a stop may leave this file. Its length is any from the least to the greatest since the last sync. Pending bytes are any bytes, and all
+-- others are as that sync left them.
 pub record IsLeft (k : Kept) (f : List ℕ) : Type 0 where
   pub no_shorter : k.least ≤ length f
   pub no_longer : length f ≤ k.greatest
   pub same : (i : ℕ) → i < k.least → (IsWritten k.ranges i → ⊥) → slice_index f i ≡ slice_index k.synced i
 
--- of these files the one of the greatest length whose pending bytes are all one value
+-- the longest file that a stop may leave, with one value at all pending bytes
 pub record IsFilled (value : ℕ) (k : Kept) (f : List ℕ) : Type 0 where
   pub long : length f ≡ k.greatest
   pub pending : (i : ℕ) → i < k.greatest → IsPending k i → slice_index f i ≡ value

@@ -1,4 +1,4 @@
--- What a bench in memory means.
+-- The meaning of a bench in memory.
 use Rattle.std.specs.Prelude.{◌≡◌, ◌<◌, ◌≤◌, ◌+◌, ◌↔◌, ℕ, List, length, take, Option}
 use Rattle.std.specs.Option.{ForSome}
 use Rattle.std.proofs.Common.{subst, sym}
@@ -8,7 +8,7 @@ use Rattle.bench_model.specs.State.{BenchState, SameOutside}
 use Rattle.bench_model.specs.Kept.{IsLeft}
 use Rattle.bench_model.specs.Record.{Event, Held, Recorded, FileOf, CellsOf, half_of, replay, held_now}
 
--- what is there fits what was recorded
+-- the file, the cells and the open operation are those of the record's replay
 pub record InStep (now : Held) (file cells : List ℕ) (operation : Option (ℕ × ℕ)) : Type 0 where
   pub same_file : now.kept.file ≡ file
   pub same_cells : now.cells ≡ cells

@@ -1,4 +1,4 @@
--- Exactly what each call does to a bench in memory: when it fails, what it reads, and all that it leaves.
+-- What exactly each call does to a bench in memory: when it fails, what it reads, and all that it leaves.
 use Rattle.std.specs.Prelude.{◌≡◌, ◌≤◌, ◌+◌, ℕ, List, length, take, drop, replicate, Option, Some, None, ⊤, Result, OnOk, OnErr}
 use Rattle.faults.specs.FailingCalls.{Ends}
 use Rattle.bench_model.specs.Act.{Act, FileLen, FileRead, FileWrite, FileCut, FileSync, CellsRead, CellsOpen, CellsSettle, CellsSettleFill, CellsDrop}
@@ -7,12 +7,12 @@ use Rattle.bench_model.specs.Record.{HasRoom, in_range, broken, wrote, cut, sync
 use Rattle.bench_model.specs.Shown.{Memory, shown, next_garbage, store_went, store_failed, stored, device_went, device_failed, worked, let_go}
 use Rattle.bench_model.specs.declared.memory.MemoryBench.{MemoryBench}
 
--- a read fills its buffer where it goes through, and else leaves it
+-- a read fills its buffer if it succeeds, and leaves it as it was if it fails
 pub record Fills {T E : Type 0} (held : List ℕ) (at : ℕ) (before after : List ℕ) (result : Result T E) : Type 0 where
   pub ok : OnOk result (after ≡ take (length before) (drop at held))
   pub err : OnErr result (after ≡ before)
 
--- breaking off is recorded where an operation is open
+-- a call that breaks off the operation: it is recorded only if an operation is open
 abbrev pub BreaksOff : {T E : Type 0} → Option (ℕ × ℕ) → Memory → Result T E → Memory → Type 0
 BreaksOff None m result after = Ends result m.device ⊤ after (device_went m) (device_failed m)
 BreaksOff (Some range) m result after = Ends result m.device (HasRoom 0 m.history) after

@@ -8,7 +8,7 @@ use Rattle.bench_model.specs.Kept.{Kept, IsLeft, IsWritten, IsPending, all_synce
 use Rattle.bench_model.specs.declared.change.Change.{Change}
 use Rattle.bench_model.specs.declared.change.Change.TheVariants.{Wrote, Cut, Synced, Opened, Settled, Filled, BrokenOff}
 
--- a recorded call, with the bytes that it was handed
+-- a recorded call, with the bytes that it got
 pub data Event : Type 0 where
   wrote : ℕ → List ℕ → Event
   cut : ℕ → Event
@@ -18,28 +18,28 @@ pub data Event : Type 0 where
   filled : ℕ → Event
   broken_off : Option ℕ → Event
 
--- how many bytes it was handed
+-- how many bytes a recorded call got
 abbrev pub handed_of : Event → ℕ
 handed_of (wrote at bytes) = length bytes
 handed_of (settled bytes) = length bytes
 handed_of _ = 0
 
--- the whole bench: its file, the cells and the open operation
+-- the contents of a whole bench: its file, the cells and the open operation
 pub record Held : Type 0 where
   pub kept : Kept
   pub cells : List ℕ
   pub operation : Option (ℕ × ℕ)
 
--- a bench of which nothing is pending and no operation is open
+-- a bench where nothing is pending and no operation is open
 abbrev pub at_rest : List ℕ → List ℕ → Held
 at_rest file cells = record { kept = all_synced file; cells = cells; operation = None }
 
--- the cells with bytes of the operation's length in its range
+-- the cells with bytes in the operation's range, given as a function of the range's length
 abbrev pub in_range : (ℕ → List ℕ) → Option (ℕ × ℕ) → List ℕ → List ℕ
 in_range bytes None cells = cells
 in_range bytes (Some range) cells = written range.0 (bytes range.1) cells
 
--- the cells once the operation is broken off: its range holds copies of one byte, or its old bytes where there is none
+-- the cells after the operation is broken off: its range holds copies of one byte, or its old bytes if no byte is given
 abbrev pub broken : Option ℕ → Option (ℕ × ℕ) → List ℕ → List ℕ
 broken None operation cells = cells
 broken (Some byte) operation cells = in_range (λ n. replicate n byte) operation cells
@@ -57,8 +57,8 @@ abbrev pub replay : List Event → Held → Held
 replay [] h = h
 replay (e ∷ es) h = replay es (after e h)
 
--- the record: how the bench was when it began, the calls since, their units so far, how many units there is room for,
--- and the longest file that it has room for
+-- the record: the bench when the record began, the calls since then, the units that they use, the units that there is room for, and the
+-- longest file that there is room for
 pub record Recorded : Type 0 where
   pub made : Held
   pub events : List Event
@@ -66,22 +66,22 @@ pub record Recorded : Type 0 where
   pub room : ℕ
   pub longest : ℕ
 
--- the bench now, and at an earlier moment
+-- the contents of the bench now, and at an earlier moment
 abbrev pub held_now : Recorded → Held
 held_now r = replay r.events r.made
 
 abbrev pub held_at : ℕ → Recorded → Held
 held_at k r = replay (take k r.events) r.made
 
--- one call more: it takes one unit, and one for each byte that it was handed
+-- the record with one call more, which uses one unit and one for each byte that it got
 abbrev pub noted : Event → Recorded → Recorded
 noted e r = record r { events = r.events ++ e ∷ []; used = r.used + (1 + handed_of e) }
 
--- there is room for a call that is handed so many bytes
+-- there is room for a call that gets `bytes` bytes
 abbrev pub HasRoom : ℕ → Recorded → Type 0
 HasRoom bytes r = r.used + (1 + bytes) ≤ r.room
 
--- what a stop may leave at each moment, of a half
+-- what a stop may leave at each moment, for each half
 abbrev pub FileOf : Held → List ℕ → Type 0
 FileOf h file = IsLeft h.kept file
 
@@ -91,7 +91,7 @@ CellsOf h cells = SameOutside h.operation h.cells cells
 abbrev pub half_of : (Held → List ℕ → Type 0) → Recorded → Half
 half_of L r = record { now = length r.events; at = λ k x. L (held_at k r) x }
 
--- How the calls stand in memory: the bytes that they were handed follow one another.
+-- How memory holds the calls: the bytes that they got follow one another.
 
 abbrev pub handed : Change → ℕ
 handed (Wrote at len) = len
@@ -115,7 +115,7 @@ abbrev pub events_of : List Change → List ℕ → List Event
 events_of [] bytes = []
 events_of (c ∷ cs) bytes = event_of c (take (handed c) bytes) ∷ events_of cs (drop (handed c) bytes)
 
--- for each byte up to the greatest length, whether it is pending
+-- for each byte up to the greatest length, whether it is pending: the marks with a range set
 abbrev pub marked : ℕ → ℕ → List Bool → List Bool
 marked from to old = take from old ++ replicate (to - from) true ++ drop to old
 
@@ -124,7 +124,7 @@ marked_by (Wrote at len) old = marked at (at + len) old
 marked_by (Cut len) old = marked len (length old) old
 marked_by _ old = old
 
--- a change can be marked so
+-- the marks have room for those of this change
 abbrev pub CanMark : Change → ℕ → ℕ → Type 0
 CanMark (Wrote at len) marks longest = (at ≤ marks) × (at + len ≤ longest)
 CanMark (Cut len) marks longest = len ≤ marks
@@ -138,7 +138,7 @@ pub record IsMarked (k : Kept) (synced : List ℕ) (marks : List Bool) : Type 0 
   pub set : (i : ℕ) → i < k.greatest → IsPending k i → slice_index_or marks i true ≡ true
   pub clear : (i : ℕ) → i < k.least → (IsWritten k.ranges i → ⊥) → slice_index_or marks i true ≡ false
 
--- what stands in memory fits the record, and there is room for all that it may grow to
+-- the buffers in memory agree with the record, and have room for all that it may grow to
 pub record IsSound (made : Held) (changes : List Change) (bytes synced : List ℕ) (marks : List Bool)
     (used room longest change_room byte_room made_room synced_room mark_room : ℕ) : Type 0 where
   pub all : handed_all changes ≡ length bytes

@@ -18,7 +18,7 @@ pub record Memory : Type 0 where
   -- the file calls and the cell calls that can fail
   pub store : Numbered
   pub device : Numbered
-  -- what broken-off operations leave, a byte each, and how many were broken off
+  -- the byte that each broken-off operation leaves, and how many were broken off
   pub garbage : List ℕ
   pub breaks : ℕ
 
@@ -35,11 +35,11 @@ shown m = record {
   breaks = m.breaks;
 }
 
--- what it means as a bench
+-- the meaning of a bench in memory as a bench
 abbrev pub bench_of : MemoryBench → BenchState
 bench_of m = memory_state m.file.items m.cells.items m.operation m.store.faults m.device.faults m.history
 
--- as it is made
+-- a bench in memory when it is made
 abbrev pub made_bench : (cells file : List ℕ) (file_room call_room : ℕ) (store_fails device_fails garbage : List ℕ) → Memory
 made_bench cells file file_room call_room store_fails device_fails garbage = record {
   file = file;
@@ -53,18 +53,18 @@ made_bench cells file file_room call_room store_fails device_fails garbage = rec
   breaks = 0;
 }
 
--- a file call that went through and changed nothing, and one that failed
+-- a file call that succeeded and changed nothing, and one that failed
 abbrev pub store_went : Memory → Memory
 store_went m = record m { store = went m.store }
 
 abbrev pub store_failed : Memory → Memory
 store_failed m = record m { store = failed m.store }
 
--- a file call that went through, with its event and the file after it
+-- a file call that succeeded, with its event and the file after it
 abbrev pub stored : Event → List ℕ → Memory → Memory
 stored e file m = record m { file = file; history = noted e m.history; store = went m.store }
 
--- the same of cell calls, with the cells and the open operation after it
+-- a cell call that succeeded and changed nothing, one that failed, and one with its event, the cells and the operation after it
 abbrev pub device_went : Memory → Memory
 device_went m = record m { device = went m.device }
 
@@ -74,7 +74,7 @@ device_failed m = record m { device = failed m.device }
 abbrev pub worked : Event → List ℕ → Option (ℕ × ℕ) → Memory → Memory
 worked e cells operation m = record m { cells = cells; operation = operation; history = noted e m.history; device = went m.device }
 
--- the byte that the next operation to be broken off leaves, if there is one
+-- the byte that the next broken-off operation leaves, if there is one
 abbrev pub next_garbage : Memory → Option ℕ
 next_garbage m = slice_get m.garbage m.breaks
 

@@ -1,9 +1,9 @@
--- What a bench means that tells nothing of its contents, as one over real files.
+-- The meaning of a bench that doesn't show its contents, such as one over real files.
 use Rattle.std.specs.Prelude.{IsTrue, false, ℕ, [], None}
 use Rattle.std.proofs.lemmas.Bool.{false≢true}
 use Rattle.bench_model.specs.State.{BenchState}
 
--- the number of cells and the counts of faults are told, and nothing else: what a stop leaves isn't claimed
+-- only the number of cells and the counts of faults are known: nothing is said of what a stop leaves
 abbrev pub untold_state : (cell_count store_faults device_faults : ℕ) → BenchState
 untold_state cell_count store_faults device_faults = record {
   file = [];
@@ -17,6 +17,6 @@ untold_state cell_count store_faults device_faults = record {
   cells_at = λ k cells. ⊥;
 }
 
--- a law of contents, of a bench that doesn't tell them
+-- a law of contents holds of a bench that doesn't show them
 pub untold_law : {A : Type 0} → IsTrue false → A
 untold_law told = absurd (false≢true told)

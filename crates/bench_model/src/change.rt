@@ -1,6 +1,6 @@
 //! A call that changed something, as a bench in memory records it.
 
-/// A recorded call. The bytes that it was handed stand beside it in the record.
+/// A recorded call. The record keeps the bytes that it got apart.
 #[derive(Clone, Copy)]
 pub(crate) enum Change {
     // place and length

@@ -1,9 +1,9 @@
-//! Bytes laid over others.
+//! Writing bytes over others.
 ghost use Rattle.std.specs.Prelude.{◌≡◌, ◌≤◌, ◌<◌, ◌+◌, length, replicate, vec_len, vec_capacity, All};
 ghost use Rattle.bench_model.specs.Calls.{written};
 ghost use Rattle.bench_model.specs.Record.{marked};
 
-/// Lays bytes over others.
+/// Writes bytes over others.
 pub(crate) fn overlay(old: &mut [u8], at: usize, bytes: &[u8])
     requires { at + length bytes.now ≤ length old.old }
     ensures { old.new ≡ written at bytes.now old.old }
@@ -19,7 +19,7 @@ pub(crate) fn overfill(old: &mut [u8], at: usize, len: usize, value: u8)
     old[at..at + len].fill(value);
 }
 
-/// Lays bytes over others and past their end.
+/// Writes bytes over others, and past their end.
 pub(crate) fn overwrite(file: &mut Vec<u8>, at: usize, bytes: &[u8])
     requires inside { at ≤ vec_len file.old }
     requires room { at + length bytes.now ≤ vec_capacity file.old }
@@ -35,7 +35,7 @@ pub(crate) fn overwrite(file: &mut Vec<u8>, at: usize, bytes: &[u8])
     }
 }
 
-/// Lays bytes over cells.
+/// Writes bytes over cells.
 pub(crate) fn settle(cells: &mut Vec<u8>, at: usize, bytes: &[u8])
     requires { at + length bytes.now ≤ vec_len cells.old }
     ensures items { cells.new.items ≡ written at bytes.now cells.old.items }
@@ -64,7 +64,7 @@ pub(crate) fn replace(old: &mut Vec<u8>, bytes: &[u8])
     let _ = old.extend_from_slice(bytes);
 }
 
-/// Marks a range, and past the end.
+/// Marks a range, which may go past the end.
 pub(crate) fn mark(marks: &mut Vec<bool>, from: usize, to: usize)
     requires order { from ≤ to }
     requires inside { from ≤ vec_len marks.old }

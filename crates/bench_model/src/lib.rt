@@ -1,4 +1,4 @@
-//! The bench: a job file and the cells of a device, and what a stop of the power may leave of them at any moment.
+//! The bench: a job file and the cells of a device, and what a stop (a loss of power) may leave of them at any moment.
 #![tactic(auto)]
 
 mod bench;

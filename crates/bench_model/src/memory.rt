@@ -1,4 +1,4 @@
-//! A bench in memory. It keeps each call that changed something, and so answers for every moment.
+//! A bench in memory. It records each call that changed something, so it knows what a stop at each moment may leave.
 ghost use Rattle.std.specs.Prelude.{◌≡◌, ◌≤◌, ◌<◌, ◌+◌, ◌^◌, ◌↔◌, length, slice_get, Some, IsTrue, IfOk, All, vec_len, vec_capacity};
 ghost use Rattle.std.specs.Option.{ForSome};
 ghost use Rattle.bench_model.specs.Memory.{InStep};
@@ -13,10 +13,10 @@ use crate::{Bench, DeviceFault, StoreFault};
 use faults::{FailingCalls, OutOfMemory};
 use std::alloc::Global;
 
-/// A bench in memory, for tests and for devices that are emulated in a test. It tells its contents.
+/// A bench in memory, for tests and for devices that a test emulates. It shows its contents.
 ///
-/// A call fails only where its number is to fail, or where there is no room for it; it then changes nothing but its
-/// number and the count of faults.
+/// A call fails only if its number is one that is to fail, or if there is no room for it. It then changes only its number and the count of
+/// faults.
 #[derive(Drop)]
 pub struct MemoryBench {
     file: Vec<u8>,
@@ -44,12 +44,12 @@ impl MemoryBench {
     ghost use Rattle.bench_model.specs.Loss.{IsAtRest, IsPicked, after_loss};
     ghost use Rattle.bench_model.specs.State.{Left};
 
-    /// A bench with these cells and this file, of which nothing is pending. It takes all memory that it ever needs.
+    /// A bench with these cells and this file, where nothing is pending. It takes all memory that it ever needs.
     ///
-    /// `file_room` is the longest file, in bytes, that a write may give. `call_room` is the room for recorded calls in
-    /// units: each takes one unit, and one more for each byte of the slice that it is handed. `store_fails` and
-    /// `device_fails` are the numbers from 1 of the file calls and of the cell calls that are to fail. Each operation
-    /// that is broken off leaves the next byte of `garbage` in its range, and its old bytes where none is left.
+    /// `file_room` is the longest file, in bytes, that a write may give. `call_room` is the room for recorded calls in units: a call takes
+    /// one unit, and one more for each byte of the slice that it gets. `store_fails` and `device_fails` are the numbers from 1 of the file
+    /// calls and of the cell calls that are to fail. Each operation that is broken off leaves the next byte of `garbage` in its range, or
+    /// its old bytes if no byte is left.
     pub fn new(
         alloc: Global,
         cells: &[u8],
@@ -96,9 +96,8 @@ impl MemoryBench {
         &self.file
     }
 
-    /// Stops the power. What is left is one of the pairs of a file and cells that a stop may leave: the one that is
-    /// picked. Afterwards nothing is pending and no operation is open. The record is empty again, and its moments begin
-    /// anew. The counts of faults and the numbers of calls go on.
+    /// Loses power. Of the pairs of a file and cells that a stop may leave, the picked one remains. Afterwards nothing is pending and no
+    /// operation is open. The record is empty, and its moments begin again. The counts of faults and the numbers of calls continue.
     pub fn power_loss(&mut self, pick: Pick)
         ensures left { Left (bench_of self.old) (bench_of self.new).file (bench_of self.new).cells }
         ensures picked { IsPicked pick (shown self.old) (shown self.new).file (shown self.new).cells }
@@ -112,7 +111,7 @@ impl MemoryBench {
     }
 }
 
-/// Puts the file that a stop leaves.
+/// Writes the file that a stop leaves.
 fn pick_file(history: &Record, file: &mut Vec<u8>, pick: Pick)
     requires longest { (held_now history.now).kept.greatest ≤ vec_capacity file.old }
     requires older { length (held_now history.now).kept.synced ≤ vec_capacity file.old }
@@ -127,7 +126,7 @@ fn pick_file(history: &Record, file: &mut Vec<u8>, pick: Pick)
     }
 }
 
-/// Puts the cells that a stop leaves.
+/// Writes the cells that a stop leaves.
 fn pick_cells(cells: &mut Vec<u8>, operation: Option<(u32, u32)>, pick: Pick)
     requires { ForSome operation (λ range. range.0 + range.1 ≤ vec_len cells.old) }
     ensures items { cells.new.items ≡ picked_cells pick operation cells.old.items }
@@ -145,7 +144,7 @@ fn can_write(history: &Record, file_room: u64, at: u64, len: usize) -> bool
     at <= file_room && len as u64 <= file_room - at && history.has_room(len)
 }
 
-/// Leaves a byte in a range of cells, or the old bytes where there is none.
+/// Fills a range of cells with a byte, or leaves the old bytes if there is none.
 fn leave(cells: &mut Vec<u8>, at: usize, len: usize, byte: Option<u8>)
     requires { at + len ≤ vec_len cells.old }
     ensures items { cells.new.items ≡ broken byte (Some (at, len)) cells.old.items }
@@ -156,7 +155,7 @@ fn leave(cells: &mut Vec<u8>, at: usize, len: usize, byte: Option<u8>)
     }
 }
 
-/// The byte at a place, where there is one.
+/// The byte at a place, if there is one.
 fn byte_at(bytes: &[u8], at: u64) -> Option<u8>
     ensures { result ≡ slice_get bytes.now at }
 {

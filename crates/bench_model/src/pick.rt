@@ -1,6 +1,6 @@
-//! What a stop of the power leaves of a bench in memory.
+//! What a loss of power leaves of a bench in memory.
 
-/// Which of the files and cells that a stop may leave is left.
+/// Picks one of the files and cells that a stop may leave.
 #[derive(Clone, Copy)]
 pub enum Pick {
     /// The file as read; the cells of an open operation keep their old bytes.

@@ -12,15 +12,15 @@ use std::marker::Model;
 
 #[derive(Drop)]
 pub(crate) struct Record {
-    // how the bench was when the record began
+    // the bench when the record began
     made_file: Vec<u8>,
     made_cells: Vec<u8>,
 
-    // the calls since, and the bytes that they were handed
+    // the calls since then, and the bytes that they got
     changes: Vec<Change>,
     handed: Vec<u8>,
 
-    // their units, and how many there is room for
+    // the units of these calls, and how many units there is room for
     used: u64,
     room: u64,
 
@@ -50,7 +50,7 @@ impl Model for Record {
         r.used r.room r.longest (vec_capacity r.changes) (vec_capacity r.handed) (vec_capacity r.made_file) (vec_capacity r.synced) (vec_capacity r.marks) };
 }
 
-/// Puts a call at the end.
+/// Adds a call at the end.
 fn push(changes: &mut Vec<Change>, handed: &mut Vec<u8>, change: Change, bytes: &[u8])
     requires change_room { vec_len changes.old < vec_capacity changes.old }
     requires byte_room { vec_len handed.old + length bytes.now ≤ vec_capacity handed.old }
@@ -87,7 +87,7 @@ fn mark_from(marks: &mut Vec<bool>, from: usize)
 }
 
 impl Record {
-    /// An empty record of a bench at rest, with room for so many units and for files of this length.
+    /// An empty record of a bench at rest, with room for `room` units and for files of this length.
     pub(crate) fn new(
         alloc: Global,
         file: &[u8],
@@ -117,7 +117,7 @@ impl Record {
         })
     }
 
-    /// Whether there is room for a call that is handed so many bytes.
+    /// Whether there is room for a call that gets this number of bytes.
     pub(crate) fn has_room(&self, bytes: usize) -> bool
         ensures { IsTrue result ↔ HasRoom bytes self.now }
     {
@@ -156,7 +156,7 @@ impl Record {
         &self.synced
     }
 
-    /// Puts the longest file that a stop may leave, with one value at each byte that is pending.
+    /// Writes the longest file that a stop may leave, with one value at each pending byte.
     pub(crate) fn fill(&self, file: &mut Vec<u8>, value: u8)
         requires { (held_now self.now).kept.greatest ≤ vec_capacity file.old }
         ensures items { IsFilled value (held_now self.now).kept file.new.items }
@@ -167,7 +167,7 @@ impl Record {
         put_clear(file, &self.marks, &self.synced, value);
     }
 
-    /// Begins anew with a bench at rest.
+    /// Begins a new record with a bench at rest.
     pub(crate) fn restart(&mut self, file: &[u8], cells: &[u8])
         requires file { length file.now ≤ self.old.longest }
         requires cells { length cells.now ≡ length self.old.made.cells }
@@ -183,7 +183,7 @@ impl Record {
     }
 }
 
-/// Puts the bytes that aren't marked over a file whose bytes are all one value.
+/// Writes the bytes without a mark over a file that has the same value everywhere.
 fn put_clear(file: &mut [u8], marks: &[bool], bytes: &[u8], value: u8)
     requires filled { file.old ≡ replicate (length marks.now) value }
     requires enough { (i : ℕ) → i < length marks.now → slice_index_or marks.now i true ≡ false → i < length bytes.now }
@@ -198,7 +198,7 @@ fn put_clear(file: &mut [u8], marks: &[bool], bytes: &[u8], value: u8)
     }
 }
 
-/// Nothing of so many bytes is pending.
+/// Makes a list of `len` marks with nothing pending.
 fn unmark(marks: &mut Vec<bool>, len: usize)
     requires { len ≤ vec_capacity marks.old }
     ensures items { marks.new.items ≡ replicate len false }

@@ -1,12 +1,12 @@
-//! A bench that stops: so many calls go through, and each later one fails.
+//! A bench that stops: a given number of calls goes through, and each later one fails.
 ghost use Rattle.std.specs.Prelude.{◌≡◌};
 ghost use Rattle.bench_model.specs.Stopped.{stopped, IsSameBench, IsSameButFaults};
 
 use crate::{Bench, DeviceFault, StoreFault};
 use faults::FaultCount;
 
-/// A bench that lets so many calls that can fail through to the one in it. Each later one fails, with its fault counted,
-/// and doesn't touch that bench.
+/// A bench around another one. It passes on the first `calls` calls that can fail. Each later one fails, with its fault counted, and
+/// doesn't reach the inner bench.
 #[derive(Drop)]
 pub struct StopBench<B> {
     inner: B,
@@ -16,7 +16,7 @@ pub struct StopBench<B> {
 }
 
 impl<B: Bench> StopBench<B> {
-    /// Lets so many calls that can fail through.
+    /// Passes on the first `calls` calls that can fail.
     pub fn new(inner: B, calls: u64) -> StopBench<B>
         ensures same { IsSameBench (B.state inner) (stopped B.state result) }
         ensures inner { result.inner ≡ inner }
@@ -30,7 +30,7 @@ impl<B: Bench> StopBench<B> {
         }
     }
 
-    /// Gives the inner bench back. The faults that it counted are its own.
+    /// Gives the inner bench back, with its own counts of faults.
     pub fn into_inner(self) -> B
         ensures inner { result ≡ self.inner }
         ensures same { IsSameButFaults (stopped B.state self) (B.state result) }

@@ -7,7 +7,7 @@ ghost use Rattle.bench_model.specs.Calls.{written, Torn, Cut, Follows, CellsStay
 
 use crate::{Bench, StoreFault};
 
-/// Writes over a range of the file, and past its end, and syncs. Once it answered Ok, a stop leaves the file as written.
+/// Writes over a range of the file, and past its end, and syncs. After the answer Ok, a stop leaves the file as written.
 pub fn write_synced<B: Bench>(bench: &mut B, at: u64, bytes: &[u8]) -> Result<(), StoreFault>
     requires { IsTrue B.tells → at ≤ length (B.state bench.old).file }
     ensures ok { IsTrue B.tells → OnOk result (((B.state bench.new).file ≡ written at bytes.now (B.state bench.old).file)
@@ -21,7 +21,7 @@ pub fn write_synced<B: Bench>(bench: &mut B, at: u64, bytes: &[u8]) -> Result<()
     bench.file_sync()
 }
 
-/// Cuts the file to a length, and syncs. Once it answered Ok, a stop leaves the file as cut.
+/// Cuts the file to a length, and syncs. After the answer Ok, a stop leaves the file as cut.
 pub fn cut_synced<B: Bench>(bench: &mut B, len: u64) -> Result<(), StoreFault>
     requires { IsTrue B.tells → len ≤ length (B.state bench.old).file }
     ensures ok { IsTrue B.tells → OnOk result (((B.state bench.new).file ≡ take len (B.state bench.old).file)

@@ -143,7 +143,7 @@ spared map r x o o' offset v some e =
     subst Same (sym at) (control_spared map r x o o' v some (not_true (starts_sector v) parts.1)))
     (or_cases _ _ e)
 
--- the same of FC1
+-- stores to FC1 that don't look at the address register
 
 fc1_begins_spared : (r : Fc1State) (x : ℕ) (o : Option Operation) →
     does_as Fc1 (begins_or o (record r { address = x }) (with_sequence (record r { address = x })))

@@ -575,7 +575,7 @@ module _ (p : Pages) (m : TargetMarks) (w w' : World) (agrees : TargetAgrees p m
 some_mark : (a b : Mark) → Some a ≡ Some b → a ≡ b
 some_mark a b e = cc
 
--- so they are a shadow of it
+-- the marks of a target are a shadow of it
 pub is_shadow : (p : Pages) → ArePages p → IsShadow p world_answer (TargetAgrees p) target_shadow
 is_shadow p bytes = record {
   stays = target_stays;

@@ -25,12 +25,12 @@ use Rattle.duty_proofs.specs.TargetMarks.{TargetMarks}
 use Rattle.duty_proofs.specs.Starts.{forgotten, names}
 use Rattle.duty_proofs.specs.Runs.{Ran, Weakens}
 
--- a target at hand with marks, between calls
+-- a target between two calls of the run at hand, with its marks
 pub record State : Type 0 where
   pub marks : TargetMarks
   pub world : World
 
--- its marks have no names and say nothing of the cells, and no operation is open
+-- the marks of a state between calls have no names and say nothing of the cells, and no operation is open
 pub record IsBetween (st : State) : Type 0 where
   pub idle : st.marks.state.operation ≡ None
   pub plain : (k : ℕ) → is_known (slice_index_or st.marks.ram k Any) ≡ false → slice_index_or st.marks.ram k Any ≡ Any
@@ -40,16 +40,16 @@ pub record IsBetween (st : State) : Type 0 where
 abbrev pub over : World → List ℕ → World
 over w cells = record w { cells = cells }
 
--- some state of each kind of list
+-- the states between the calls of each kind of list: how many there are, and each by its number
 pub record States : Type 0 where
   pub count : ℕ → ℕ
   pub state : ℕ → ℕ → State
 
--- what a run leaves fits one of the states of a kind
+-- what a run leaves fits one of the states of this kind
 abbrev pub Enters : States → ℕ → TargetMarks → World → Type 0
 Enters all kind m w = (i : ℕ) × (i < all.count kind) × Weakens m w (all.state kind i).marks (all.state kind i).world
 
--- one run of a call from a state, over cells at hand and marks of its place; at its end the place has these marks
+-- one run of a call from a state, over the cells at hand and the marks of its place; the place has the marks `after` at its end
 pub record Goes (s : Setup) (place : Option (ℕ × ℕ)) (st : State) (c : Call) (bytes : List ℕ) (from len : ℕ) (before : List CellMark) (after : ℕ → CellMark)
     (Then : TargetMarks → World → Type 0) : Type 0 where
   pub cells : List ℕ
@@ -64,7 +64,7 @@ pub record Goes (s : Setup) (place : Option (ℕ × ℕ)) (st : State) (c : Call
 abbrev pub any_cell : CellMark
 any_cell = Holds Any
 
--- after a load, with all known but the cells
+-- the marks after a load of the algorithm: all is known but the cells
 abbrev pub load_marks : BoardShown → AlgorithmShown → TargetMarks
 load_marks b a = record {
   base = b.ram_base;
@@ -80,11 +80,11 @@ load_marks b a = record {
 abbrev pub Anything : TargetMarks → World → Type 0
 Anything m w = Unit {0}
 
--- cells that hold the bytes of the page
+-- the marks of cells that hold the bytes of the page
 abbrev pub named_cells : ℕ → List CellMark
 named_cells n = map Holds (names 0 n)
 
--- The table.
+-- The table: one run of each call that may be asked for, from each state between calls.
 pub record Decided (b : BoardShown) (a : AlgorithmShown) (region : ℕ) : Type 0 where
   pub all : States
   pub between : (kind i : ℕ) → i < all.count kind → IsBetween (all.state kind i)

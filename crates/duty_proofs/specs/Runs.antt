@@ -1,4 +1,4 @@
--- What is seen of one run of a call, and what fits the marks between calls.
+-- What one run of a call shows, and what fits the marks between calls.
 use Rattle.std.specs.Prelude.{◌≡◌, ◌≤◌, ◌+◌, ◌-◌, ℕ, true, false, List, [], length, slice_index, slice_index_or, Option, None}
 use Rattle.armv6m_decode.specs.declared.registers.TheConstants.{PC}
 use Rattle.armv6m_step.specs.Registers.{pc_of}
@@ -18,7 +18,7 @@ use Rattle.duty_proofs.specs.declared.cells.CellMark.{CellMark}
 use Rattle.duty_proofs.specs.TargetMarks.{TargetMarks, TargetAgrees, Alike}
 use Rattle.duty_proofs.specs.Starts.{all_known, started}
 
--- The run at hand came back with the value of success and no open operation, and its marks say so of every run.
+-- The run at hand returned with the value of success and no open operation, and by its marks so does every other run.
 pub record Back (setup : Setup) (x : Point) (r : Marks TargetMarks) (wanted : ℕ) : Type 0 where
   pub counter : is_known (mark_at r.core PC) ≡ true
   pub value : is_known (mark_at r.core 0) ≡ true
@@ -30,8 +30,8 @@ pub record Back (setup : Setup) (x : Point) (r : Marks TargetMarks) (wanted : �
 abbrev pub start_marks : Setup → TargetMarks → ℕ → ℕ → List CellMark → Marks TargetMarks
 start_marks s m n from cells = record { core = all_known; bus = started m (s.layout.buffer_at - s.layout.return_at) n from cells }
 
--- One run of a call, from a target with marks between calls, came back within its fuel by n steps. Every other run of the call makes n steps too,
--- whatever its bytes are, from every target that the marks fit. It opens operations in the place alone, and the last marks hold of both.
+-- One run of a call, from a target with marks between calls, returned within its fuel after n steps. So does every other run of the call,
+-- with any bytes and from every target that fits the marks. It opens operations only in the place, and the last marks hold of both.
 pub record Ran (s : Setup) (place : Option (ℕ × ℕ)) (m : TargetMarks) (w : World) (c : Call) (bytes : List ℕ) (from : ℕ) (cells : List CellMark) (n : ℕ)
     (r : Marks TargetMarks) : Type 0 where
   pub alike : (p : Pages) (w' : World) → ArePages p → p.here ≡ bytes → length p.there ≡ length p.here
@@ -41,15 +41,15 @@ pub record Ran (s : Setup) (place : Option (ℕ × ℕ)) (m : TargetMarks) (w : 
   pub back : Back s (whole (first_point s w (asked c bytes)) n) r (success_of c (length bytes))
   pub room : s.layout.buffer_at - s.layout.return_at + length bytes ≤ length m.ram
 
--- no page
+-- an empty page, in both runs
 abbrev pub no_page : Pages
 no_page = record { here = []; there = [] }
 
--- another target fits the marks of a target at hand between calls
+-- a target fits the marks of the target at hand between calls
 abbrev pub FitsMarks : TargetMarks → World → World → Type 0
 FitsMarks m w x = TargetAgrees no_page m w x
 
--- What fits the first marks fits the second: those say no more.
+-- Each target that fits the first marks also fits the second, which say no more.
 pub record Weakens (m : TargetMarks) (w : World) (m' : TargetMarks) (w' : World) : Type 0 where
   pub base : m'.base ≡ m.base
   pub map : m'.map ≡ m.map

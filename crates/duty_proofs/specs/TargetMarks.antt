@@ -31,10 +31,10 @@ use Rattle.shadow_step.specs.Shadow.{Shadow}
 use Rattle.duty_proofs.specs.declared.cells.CellMark.{CellMark}
 use Rattle.duty_proofs.specs.declared.cells.CellMark.TheVariants.{Blank, Holds}
 
--- ---- what they are
+-- ---- what the marks are
 
--- Where the RAM lies and the map, which no step changes; the marks of the RAM; the controller of the run at hand, and whether its address
--- register is known; the mark of the number that is being programmed; and the marks of the cells from a place on.
+-- The RAM's base and the flash map, which no step changes; the marks of the RAM; the controller of the run at hand, and whether its address
+-- register is known; the mark of the number being programmed; and the marks of the cells from a place on.
 pub record TargetMarks : Type 0 where
   pub base : ℕ
   pub map : FlashMap
@@ -45,7 +45,7 @@ pub record TargetMarks : Type 0 where
   pub from : ℕ
   pub cells : List CellMark
 
--- ---- what they say
+-- ---- what the marks say
 
 abbrev pub CellSays : Pages → CellMark → ℕ → ℕ → Type 0
 CellSays p Blank v v' = (v ≡ 0xFF) × (v' ≡ 0xFF)
@@ -55,7 +55,7 @@ abbrev pub with_address : AnyRegisters → ℕ → AnyRegisters
 with_address (Fc1 r) x = Fc1 (record r { address = x })
 with_address (Fpec r) x = Fpec (record r { address = x })
 
--- the same registers, but perhaps for the address
+-- two sets of registers are equal, or differ only in the address register
 abbrev pub Alike : Bool → AnyRegisters → AnyRegisters → Type 0
 Alike true r r' = r' ≡ r
 Alike false r r' = (x : ℕ) × (r' ≡ with_address r x)
@@ -87,9 +87,9 @@ pub record TargetAgrees (p : Pages) (m : TargetMarks) (w w' : World) : Type 0 wh
   pub runs : RunsAgree p m.value m.state.operation w'.state.operation
   pub cells : CellsAgree p m.from m.cells w.cells w'.cells
 
--- ---- what becomes of them
+-- ---- how the marks change
 
--- the address register: ADDR of FC1, AR of FPEC
+-- whether an offset is that of the address register: ADDR of FC1, AR of FPEC
 abbrev pub is_address : AnyRegisters → ℕ → Bool
 is_address (Fc1 r) offset = nat_eq offset 12
 is_address (Fpec r) offset = nat_eq offset 0x14
@@ -101,13 +101,13 @@ abbrev pub byte_of : CellMark → Mark
 byte_of Blank = Known
 byte_of (Holds m) = m
 
--- of a number in the cells: a name or more where all its cells have marks
+-- the mark of a number in the cells: Any unless all its cells have marks
 abbrev pub cells_mark : TargetMarks → ℕ → ℕ → Mark
 cells_mark m width at =
     if nat_le m.from at && (nat_le (at - m.from + width) (length m.cells) && (nat_eq width 1 || (nat_eq width 2 || nat_eq width 4)))
     then number_mark (map byte_of m.cells) width (at - m.from) else Any
 
--- while an operation runs no cell is loaded
+-- the mark that a load from the controller or the flash gives; no cell is read while an operation runs
 abbrev pub device_load : TargetMarks → ℕ → Place → Mark
 device_load m width (place.Register offset) = register_mark m offset
 device_load m width (place.Flash found) = if is_some m.state.operation then Known else cells_mark m width found.place
@@ -120,7 +120,7 @@ ram_or m width at None = device_load m width (device_place m.map at width)
 abbrev pub is_blank : List CellMark → ℕ → Bool
 is_blank ms k = elim (slice_index_or ms k (Holds Any)) [ Blank ↦ true | Holds m ↦ false ]
 
--- the halfword at a place is erased in every run
+-- whether the halfword at a place is erased in every run
 abbrev pub half_blank : TargetMarks → ℕ → Bool
 half_blank m at = nat_le m.from at && (is_blank m.cells (at - m.from) && is_blank m.cells (at - m.from + 1))
 
@@ -128,21 +128,21 @@ abbrev pub value_after : Effect → Mark → Mark
 value_after (effect.Begins o) k = Known
 value_after _ k = k
 
--- a store of a number that is known to a register, where it leaves what it leaves at hand
+-- the marks after a store of a known number to a register, by its effect in the run at hand
 abbrev pub registered : TargetMarks → ℕ → ℕ → TargetMarks
 registered m offset v =
     let e : Effect × AnyRegisters = any_store m.map m.state.registers m.state.operation offset v in
     record m { state = record { registers = e.1; operation = begun m.state.operation e.0 }; value = value_after e.0 m.value }
 
--- a number in CR that starts the erasure of the sector of the address register: STRT and PER without MER
+-- whether a number in CR starts an erase of the sector in the address register: STRT and PER without MER
 abbrev pub starts_sector : ℕ → Bool
 starts_sector v = has_bit v 64 && (has_bit v 2 && not (has_bit v 4))
 
--- a store that doesn't look at the address register of FPEC: to KEYR, SR, and to CR where it starts the erasure of no sector
+-- a store that doesn't look at the address register of FPEC: to KEYR, SR, and to CR unless it starts a sector erase
 abbrev pub spares_address : ℕ → ℕ → Bool
 spares_address offset v = (nat_eq offset 0x04 || nat_eq offset 0x0C) || (nat_eq offset 0x10 && not (starts_sector v))
 
--- and one to KEY, STATUS and CMD of FC1, and to START where CMD isn't that of a sector's erasure
+-- a store that doesn't look at the address register of FC1: to KEY, STATUS, CMD, and to START unless CMD is a sector erase
 abbrev pub fc1_spares : Fc1State → ℕ → Bool
 fc1_spares r offset = (nat_eq offset 0 || nat_eq offset 4) || (nat_eq offset 8 || (nat_eq offset 16 && not (nat_eq r.command 2)))
 
@@ -150,23 +150,23 @@ abbrev pub spares : AnyRegisters → ℕ → ℕ → Bool
 spares (Fc1 r) offset v = fc1_spares r offset
 spares (Fpec r) offset v = spares_address offset v
 
--- a store that the address register takes
+-- a store that sets the address register
 abbrev pub takes_address : AnyRegisters → Option Operation → ℕ → Bool
 takes_address (Fc1 r) runs offset = nat_eq offset 12 && is_ready r runs
 takes_address (Fpec r) runs offset = nat_eq offset 0x14 && not (is_some runs)
 
--- Where the address register isn't known: it is after a store that it takes.
+-- The marks after a store where the address register isn't known. If the store sets that register, it is known after it.
 abbrev pub unaddressed : TargetMarks → ℕ → ℕ → Option TargetMarks
 unaddressed m offset v =
     if takes_address m.state.registers m.state.operation offset then Some (record (registered m offset v) { address = true })
     else if spares m.state.registers offset v then Some (registered m offset v) else None
 
--- a store of this width to an area programs the cells there, where they are erased: a halfword of FPEC, a unit of FC1
+-- a store of this width to an area programs erased cells there: a halfword by FPEC, a unit by FC1
 abbrev pub programs_unit : AnyRegisters → Area → ℕ → Bool
 programs_unit (Fc1 r) area width = (nat_eq width 2 || nat_eq width 4) && (nat_eq area.empty 0xFF && fc1_may_program r area width)
 programs_unit (Fpec r) area width = nat_eq width 2 && may_program r
 
--- two bytes or four are erased in every run
+-- whether the two or four bytes at a place are erased in every run
 abbrev pub unit_blank : TargetMarks → ℕ → ℕ → Bool
 unit_blank m width at = half_blank m at && (nat_eq width 2 || half_blank m (at + 2))
 
@@ -200,7 +200,7 @@ target_shadow = record {
 
 -- ---- a tick
 
--- a list laid over another, from a place on
+-- a list with another one written over it from a place on
 abbrev pub laid : {A : Type 0} → ℕ → List A → List A → List A
 laid at new old = take at old ++ new ++ drop (at + length new) old
 
@@ -210,11 +210,11 @@ work_marks k (work.Half v) = Holds (part_of 2 0 k) ∷ Holds (part_of 2 1 k) ∷
 work_marks k (work.Word v) = Holds (part_of 4 0 k) ∷ Holds (part_of 4 1 k) ∷ Holds (part_of 4 2 k) ∷ Holds (part_of 4 3 k) ∷ []
 work_marks k (work.Fill len v) = replicate len (if nat_eq v 0xFF then Blank else Holds Known)
 
--- it lies among the cells that have marks
+-- whether an operation is within the cells that have marks
 abbrev pub lies_there : TargetMarks → Operation → Bool
 lies_there m o = nat_le m.from o.place && nat_le (o.place + work_len o.work) (m.from + length m.cells)
 
--- after its last tick; of one that lies elsewhere no mark of a cell is left
+-- the marks after an operation's last tick; an operation elsewhere leaves no marks of cells
 abbrev pub settled : TargetMarks → Operation → TargetMarks
 settled m o = record m {
   state = done any_table m.state;

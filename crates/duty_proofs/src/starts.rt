@@ -1,4 +1,4 @@
-//! The marks at which a call begins.
+//! The marks at the beginning of a call.
 ghost use Rattle.std.specs.Prelude.{◌≡◌, ◌≤◌, ◌+◌, length};
 ghost use Rattle.duty_proofs.specs.TargetMarks.{laid};
 ghost use Rattle.duty_proofs.specs.Starts.{names, started};
@@ -8,7 +8,7 @@ use crate::cells::CellMark;
 use crate::target_marks::Marked;
 use shadow_step::Mark;
 
-/// Names the `count` bytes of a call in the buffer.
+/// Marks the `count` bytes in the buffer as those of the page.
 #[tactic(auto, using(crate::proofs::NameLemmas::no_names, crate::proofs::NameLemmas::one_name_more))]
 pub fn put_names(marks: &mut [Mark], at: usize, count: u32)
     requires { at + count ≤ length marks.old }
@@ -20,7 +20,7 @@ pub fn put_names(marks: &mut [Mark], at: usize, count: u32)
 }
 
 impl<'a> Marked<'a> {
-    /// The marks at which a call begins: its bytes are in the buffer, and the cells from a place on have these marks.
+    /// The marks at the beginning of a call: its bytes are in the buffer, and the cells from a place on have these marks.
     pub fn start(&mut self, buffer: usize, count: u32, from: u32, cells: Vec<CellMark>)
         requires { buffer + count ≤ length self.old.ram.items }
         ensures { marks_in self.new ≡ started (marks_in self.old) buffer count from cells.items }

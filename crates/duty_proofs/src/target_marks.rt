@@ -21,8 +21,8 @@ use flash_layout::{Area, FlashMap, Found, Operation, Work, unit_work};
 use shadow_step::{BusMarks, Mark, number_mark, put_number};
 use target_core::AnyRegisters;
 
-/// Where the RAM lies and the map, which no step changes; the marks of the RAM; the controller of the run at hand, and whether its address
-/// register is known; the mark of the number that is being programmed; and the marks of the cells from a place on.
+/// The RAM's base and the flash map, which no step changes; the marks of the RAM; the controller of the run at hand, and whether its
+/// address register is known; the mark of the number being programmed; and the marks of the cells from a place on.
 #[derive(Drop)]
 pub struct Marked<'a> {
     pub base: u32,
@@ -77,7 +77,7 @@ fn cell_byte(cells: &[CellMark], index: usize) -> Mark
     }
 }
 
-/// Of a halfword.
+/// The mark of a halfword in cells.
 fn cell_half(cells: &[CellMark], index: usize) -> Mark
     requires { index < 2 ^ 34 }
     ensures { result ≡ half_mark (map byte_of cells.now) index }
@@ -85,7 +85,7 @@ fn cell_half(cells: &[CellMark], index: usize) -> Mark
     cell_byte(cells, index).joined(1, cell_byte(cells, index + 1))
 }
 
-/// The mark of a number of `width` bytes.
+/// The mark of a number of `width` bytes in cells.
 fn cells_number(cells: &[CellMark], width: u32, index: usize) -> Mark
     requires { index < 2 ^ 33 }
     ensures { result ≡ number_mark (map byte_of cells.now) width index }
@@ -99,7 +99,7 @@ fn cells_number(cells: &[CellMark], width: u32, index: usize) -> Mark
     }
 }
 
-/// Whether it is the address register.
+/// Whether an offset is that of the address register.
 fn is_address(registers: &AnyRegisters, offset: u32) -> bool
     ensures { result ≡ is_address registers.now offset }
 {
@@ -109,7 +109,7 @@ fn is_address(registers: &AnyRegisters, offset: u32) -> bool
     }
 }
 
-/// Whether the address register takes a store.
+/// Whether a store sets the address register.
 fn takes_address(registers: &AnyRegisters, operation: Option<Operation>, offset: u32) -> bool
     ensures { result ≡ takes_address registers.now operation offset }
 {
@@ -119,7 +119,7 @@ fn takes_address(registers: &AnyRegisters, operation: Option<Operation>, offset:
     }
 }
 
-/// Whether a number in CR starts the erasure of the sector of AR.
+/// Whether a number in CR starts an erase of the sector in AR.
 fn starts_sector(value: u32) -> bool
     ensures { result ≡ starts_sector value }
 {
@@ -133,7 +133,7 @@ fn spares_address(offset: u32, value: u32) -> bool
     (offset == 0x04 || offset == 0x0C) || (offset == 0x10 && !starts_sector(value))
 }
 
-/// Whether a store to an FC1 doesn't.
+/// Whether a store to an FC1 doesn't look at its address register.
 fn fc1_spares(state: &Fc1State, offset: u32) -> bool
     ensures { result ≡ fc1_spares state.now offset }
 {
@@ -150,7 +150,7 @@ fn spares(registers: &AnyRegisters, offset: u32, value: u32) -> bool
     }
 }
 
-/// Whether a store of `width` bytes to an area programs the cells there, where they are erased.
+/// Whether a store of `width` bytes to an area programs erased cells there.
 fn programs_unit(registers: &AnyRegisters, area: &Area, width: u32) -> bool
     ensures { result ≡ programs_unit registers.now area.now width }
 {
@@ -163,7 +163,7 @@ fn programs_unit(registers: &AnyRegisters, area: &Area, width: u32) -> bool
 }
 
 impl<'a> Marked<'a> {
-    /// The mark of a number that a register answers.
+    /// The mark of the number that a register gives.
     fn register_mark(&self, offset: u32) -> Mark
         ensures { result ≡ register_mark (marks_in self.now) offset }
     {
@@ -186,7 +186,7 @@ impl<'a> Marked<'a> {
         }
     }
 
-    /// Whether the halfword at a place is.
+    /// Whether the halfword at a place is erased in every run.
     fn half_blank(&self, at: usize) -> bool
         requires { at < 2 ^ 33 }
         ensures { result ≡ half_blank (marks_in self.now) at }
@@ -195,7 +195,7 @@ impl<'a> Marked<'a> {
         at >= from && (self.is_blank(at - from) && self.is_blank(at - from + 1))
     }
 
-    /// Whether two bytes or four are.
+    /// Whether the two or four bytes at a place are erased in every run.
     fn unit_blank(&self, width: u32, at: u32) -> bool
         ensures { result ≡ unit_blank (marks_in self.now) width at }
     {
@@ -203,7 +203,7 @@ impl<'a> Marked<'a> {
         self.half_blank(at) && (width == 2 || self.half_blank(at + 2))
     }
 
-    /// A store of a number that is known to a register.
+    /// A store of a known number to a register.
     fn registered(&mut self, offset: u32, value: u32)
         ensures { marks_in self.new ≡ registered (marks_in self.old) offset value }
     {
@@ -217,7 +217,7 @@ impl<'a> Marked<'a> {
         }
     }
 
-    /// The same where the address register isn't known.
+    /// A store of a known number to a register, where the address register isn't known.
     fn unaddressed(&mut self, offset: u32, value: u32) -> bool
         ensures { unaddressed (marks_in self.old) offset value ≡ (if result then Some (marks_in self.new) else None) }
     {
@@ -233,7 +233,7 @@ impl<'a> Marked<'a> {
         false
     }
 
-    /// Begins to program a unit.
+    /// Begins programming a unit.
     fn begins_unit(&mut self, width: u32, value: u32, found: Found, mark: Mark) -> bool
         ensures { begins_unit (marks_in self.old) width value found mark self.old.state.operation ≡ (if result then Some (marks_in self.new) else None) }
     {
@@ -269,7 +269,7 @@ impl<'a> Marked<'a> {
         }
     }
 
-    /// That of a number outside the RAM.
+    /// The mark of a number outside the RAM.
     fn device_load(&self, width: u32, place: Place) -> Mark
         ensures { result ≡ device_load (marks_in self.now) width place }
     {
@@ -313,7 +313,7 @@ impl<'a> Marked<'a> {
         }
     }
 
-    /// Whether an operation lies among the cells that have marks.
+    /// Whether an operation is within the cells that have marks.
     fn lies_there(&self, operation: &Operation) -> bool
         ensures { result ≡ lies_there (marks_in self.now) operation.now }
     {
@@ -355,7 +355,7 @@ impl<'a> Marked<'a> {
         }
     }
 
-    /// What the end of an operation leaves.
+    /// Marks what the end of an operation leaves.
     fn settle(&mut self, operation: &Operation)
         ensures { marks_in self.new ≡ settled (marks_in self.old) operation.now }
     {
@@ -370,7 +370,7 @@ impl<'a> Marked<'a> {
         self.value = Mark::Known;
     }
 
-    /// A tick of an operation that runs.
+    /// Marks a tick of a running operation.
     #[tactic(auto, using(crate::proofs::CellLemmas::left_more, crate::proofs::CellLemmas::left_last))]
     fn tick_running(&mut self, operation: &Operation)
         ensures { marks_in self.new ≡ tick_left (marks_in self.old) operation.now operation.now.ticks }
@@ -385,7 +385,7 @@ impl<'a> Marked<'a> {
         self.settle(operation);
     }
 
-    /// A tick.
+    /// Marks a tick.
     pub fn tick(&mut self)
         ensures { marks_in self.new ≡ tick_by (marks_in self.old) self.old.state.operation }
     {

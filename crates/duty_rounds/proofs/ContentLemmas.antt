@@ -19,7 +19,7 @@ pub page_emptied : (t : Subject) (k : ℕ) (span : Span) (x y : List ℕ) → k 
 page_emptied t k span x y less is long only put =
     emptied t (range_at (site_in t).layout.pages k) span x y is long ((layout_good t).pages_part.below k less) only put
 
--- and one that was empty
+-- a page that was empty stays empty when another page is emptied
 pub page_stays_empty : (t : Subject) (j : ℕ) (span : Span) (x y : List ℕ) → j < length (site_in t).layout.pages → OnlyBetween span.from span.to x y
     → ((i : ℕ) → span.from ≤ i → i < span.to → slice_index y i ≡ t.algorithm.now.device.empty) → MayWork (setup_for t) (site_in t) x work.Pages j
     → MayWork (setup_for t) (site_in t) y work.Pages j

@@ -44,7 +44,7 @@ tried_says b a region (verdict.Broken broken) says = says
 
 -- ---- several algorithms, one after the other
 
--- what is known of so many of them, none of which broke a duty
+-- what is known of the first `count` algorithms, if none of them broke a duty
 abbrev pub SoFar : BoardShown → List AlgorithmShown → ℕ → Verdict → Type 0
 SoFar b algorithms count verdict.Proved = (k : ℕ) (other : AlgorithmShown) → k < count → Serves b (get_or algorithms k other) k
 SoFar b algorithms count verdict.Tried = Unit {0}

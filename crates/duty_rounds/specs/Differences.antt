@@ -1,8 +1,8 @@
--- The first cell that differs.
+-- The first cell that differs between two contents.
 use Rattle.std.specs.Prelude.{◌≡◌, ◌≢◌, ◌<◌, ℕ, List, length, slice_index}
 use Rattle.duty_rounds.specs.declared.verdict.Difference.{Difference}
 
--- contents that were found differ there from those that are wanted, and nowhere before
+-- the found contents differ from the wanted ones at this place, and not before it
 pub record IsFirstDifference (found wanted : List ℕ) (d : Difference) : Type 0 where
   pub inside : d.place < length found
   pub among : d.place < length wanted

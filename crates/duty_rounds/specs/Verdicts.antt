@@ -15,32 +15,32 @@ abbrev pub IsBroken : Verdict → Type 0
 IsBroken (verdict.Broken broken) = Unit {0}
 IsBroken _ = ⊥
 
--- each algorithm is one for the region in its place
+-- algorithm number k is one for region number k
 pub record AreFit (b : BoardShown) (algorithms : List AlgorithmShown) : Type 0 where
   pub each : (k : ℕ) (a : AlgorithmShown) → slice_get algorithms k ≡ Some a → IsFit b a k
 
 -- ---- one algorithm
 
--- In a list of such works a call isn't kept: with some set of sectors or pages, over some contents, and behind what the ideal device leaves up to
--- the call.
+-- In a list of such works a call isn't kept, for some set of sectors or pages and some contents. Up to that call the device holds what the
+-- ideal device leaves.
 pub record Breaks (b : BoardShown) (a : AlgorithmShown) (region : ℕ) (work : Work) (turn : Turn) : Type 0 where
   pub set : List Bool
   pub before : List ℕ
   pub ideal : List ℕ
   pub breaks : BreaksAt b a region work set before ideal turn
 
--- what a breach says
+-- what a reported breach says of an algorithm
 pub record IsBreach (b : BoardShown) (a : AlgorithmShown) (region : ℕ) (broken : Broken) : Type 0 where
   pub region_is : broken.region ≡ region
   pub breaks : Breaks b a region broken.plan.work broken.turn
 
--- what lists that were tried say; no theorem comes of them
+-- what a verdict after trials says: a breach is real, and trials prove nothing else
 abbrev pub SaysTried : BoardShown → AlgorithmShown → ℕ → Verdict → Type 0
 SaysTried b a region verdict.Proved = ⊥
 SaysTried b a region verdict.Tried = Unit {0}
 SaysTried b a region (verdict.Broken broken) = IsBreach b a region broken
 
--- what a verdict says
+-- what a verdict says of an algorithm
 abbrev pub Says : BoardShown → AlgorithmShown → ℕ → Verdict → Type 0
 Says b a region verdict.Proved = Serves b a region
 Says b a region verdict.Tried = Unit {0}
@@ -48,14 +48,14 @@ Says b a region (verdict.Broken broken) = IsBreach b a region broken
 
 -- ---- several
 
--- the verdict of algorithms none of which broke a duty, and of one more
+-- the verdict of several algorithms together, from that of the ones before and that of one more
 abbrev pub beside : Verdict → Verdict → Verdict
 beside verdict.Proved own = own
 beside verdict.Tried verdict.Proved = verdict.Tried
 beside verdict.Tried own = own
 beside (verdict.Broken broken) own = verdict.Broken broken
 
--- the algorithm of one of the regions
+-- a breach of the algorithm of one of the regions
 pub record BreaksOne (b : BoardShown) (algorithms : List AlgorithmShown) (broken : Broken) : Type 0 where
   pub algorithm : AlgorithmShown
   pub is : slice_get algorithms broken.region ≡ Some algorithm

@@ -7,13 +7,13 @@ use duty_trials::{Subject, Work, mix};
 use faults::OutOfMemory;
 use std::alloc::Global;
 
-/// Where there are at most so many all are chosen.
+/// Up to this number of sectors or pages, all are chosen.
 const ALL_UP_TO: u32 = 64;
 
-/// How many are chosen at random besides.
+/// How many more are chosen at random.
 const RANDOM: u64 = 16;
 
-/// Takes a number into a set, where it is one of its.
+/// Adds a number to a set, if the set has a place for it.
 fn take(set: &mut [bool], number: u32) {
     let place = number as usize;
     if place < set.len() {
@@ -21,7 +21,7 @@ fn take(set: &mut [bool], number: u32) {
     }
 }
 
-/// Takes the sector or the page that has a place of the device, where one has it.
+/// Adds the sector or page with a place of the device, if there is one.
 fn take_at(subject: &Subject<'_>, work: Work, place: u32, set: &mut [bool]) {
     let number = match work {
         Work::Sectors => subject.geometry.sector_at(place),
@@ -33,20 +33,20 @@ fn take_at(subject: &Subject<'_>, work: Work, place: u32, set: &mut [bool]) {
     }
 }
 
-/// Takes the sectors or pages on both sides of a place.
+/// Adds the sectors or pages on both sides of a place.
 fn take_around(subject: &Subject<'_>, work: Work, place: u32, set: &mut [bool]) {
     take_at(subject, work, place.wrapping_sub(1), set);
     take_at(subject, work, place, set);
 }
 
-/// Takes those beside the places where the algorithm's sectors have another size.
+/// Adds those beside each place where the algorithm's sectors change their size.
 fn take_items(subject: &Subject<'_>, work: Work, set: &mut [bool]) {
     for item in subject.algorithm.items.as_slice() {
         take_around(subject, work, item.offset, set);
     }
 }
 
-/// Takes those beside the places where the board's sectors have another size.
+/// Adds those beside each place where the board's sectors change their size.
 fn take_runs(subject: &Subject<'_>, work: Work, set: &mut [bool]) {
     let Some(region) = subject.board.regions.as_slice().get(subject.region) else {
         return;
@@ -58,7 +58,7 @@ fn take_runs(subject: &Subject<'_>, work: Work, set: &mut [bool]) {
     }
 }
 
-/// Takes numbers at random.
+/// Adds numbers at random.
 fn take_random(set: &mut [bool], seed: u64) {
     let count = set.len() as u64;
     if count == 0 {
@@ -69,8 +69,8 @@ fn take_random(set: &mut [bool], seed: u64) {
     }
 }
 
-/// The sectors or pages that a list works on: all of them where there are at most 64. Else the first and the last, those on both sides of
-/// each place where the algorithm's or the board's sectors have another size from there on, and 16 at random.
+/// The sectors or pages that a list works on. Up to 64, it is all of them. Otherwise they are the first and the last, those on both sides
+/// of each place where the algorithm's or the board's sectors change their size, and 16 at random.
 pub fn choose(
     alloc: Global,
     subject: &Subject<'_>,

@@ -7,14 +7,14 @@ ghost use Rattle.duty_trials.specs.Subjects.{setup_for, site_in};
 use crate::plan::{Contents, Plan};
 use duty_trials::{Subject, Work, fill, random_byte};
 
-/// Puts random bytes of a seed.
+/// Writes random bytes of a seed.
 fn put_random(cells: &mut [u8], seed: u64) {
     for index in 0..cells.len() {
         cells[index] = random_byte(seed, index as u64);
     }
 }
 
-/// Empties a sector where it is in a set.
+/// Empties a sector if a set has it.
 fn empty_sector(subject: &Subject<'_>, set: &[bool], number: u32, cells: &mut [u8])
     requires number { number < length (site_in subject.now).layout.sectors }
     requires set { length set.now ≡ length (site_in subject.now).layout.sectors }
@@ -37,7 +37,7 @@ fn empty_sectors(subject: &Subject<'_>, set: &[bool], cells: &mut [u8])
     }
 }
 
-/// Empties a page where it is in a set.
+/// Empties a page if a set has it.
 fn empty_page(subject: &Subject<'_>, set: &[bool], number: u32, cells: &mut [u8])
     requires number { number < length (site_in subject.now).layout.pages }
     requires set { length set.now ≡ length (site_in subject.now).layout.pages }
@@ -64,7 +64,7 @@ fn empty_pages(subject: &Subject<'_>, set: &[bool], cells: &mut [u8])
     }
 }
 
-/// Puts bytes to all cells.
+/// Writes the bytes of some contents to all cells.
 fn put_all(subject: &Subject<'_>, contents: Contents, seed: u64, cells: &mut [u8]) {
     match contents {
         Contents::Blank => cells.fill(subject.algorithm.device.empty),
@@ -73,7 +73,7 @@ fn put_all(subject: &Subject<'_>, contents: Contents, seed: u64, cells: &mut [u8
     }
 }
 
-/// Puts the contents before a list to the cells. Pages that the list programs are empty.
+/// Writes the contents before a list to the cells. Pages that the list programs are empty.
 pub(crate) fn put_contents(
     subject: &Subject<'_>,
     plan: &Plan,

@@ -1,5 +1,5 @@
-//! Rounds of lists of calls that try the flash algorithms of a board: which contents, sectors, pages and bytes they take, and what all of
-//! them show.
+//! Rounds of lists of calls that try the flash algorithms of a board: with which contents, sectors, pages and bytes, and what the lists
+//! show together.
 #![tactic(auto)]
 
 mod choice;

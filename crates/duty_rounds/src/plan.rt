@@ -5,9 +5,9 @@ use duty_trials::{PageBytes, Work};
 /// What the cells hold before a list.
 #[derive(Clone, Copy)]
 pub enum Contents {
-    /// The empty value.
+    /// The empty value in each cell.
     Blank,
-    /// All 0.
+    /// 0 in each cell.
     Zero,
     /// Random bytes.
     Random,
@@ -48,7 +48,7 @@ fn bytes_of(number: u64) -> PageBytes {
 }
 
 impl Plan {
-    /// A list of a round by its number from 0 on: four of sectors, three of the chip, fifteen of pages, and four of checks.
+    /// The list of a round with this number, from 0 on: four of sectors, three of the chip, fifteen of pages, and four of checks.
     pub(crate) fn at(number: u64) -> Plan {
         let (work, contents, bytes) = if number < 4 {
             (Work::Sectors, number, 2)

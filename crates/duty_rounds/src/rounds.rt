@@ -1,4 +1,4 @@
-//! Rounds of lists, and what all of them show.
+//! Rounds of lists, and what they show together.
 ghost use Rattle.std.specs.Prelude.{◌≡◌, length, map, [], ◌∷◌, IsTrue, IfOk};
 ghost use Rattle.board_file.specs.Shown.{shown as board_of};
 ghost use Rattle.flm_descriptor.specs.Shown.{Shown as AlgorithmShown, shown as algorithm_of};
@@ -25,13 +25,13 @@ pub struct Rounds {
     pub rounds: u32,
 }
 
-/// Who is told how far the trials have come.
+/// Gets reports of how far the trials have come.
 pub trait Progress {
-    /// One list more was tried, which made so many calls.
+    /// One list more was tried, with this number of calls.
     fn tried(&mut self, calls: u64);
 }
 
-/// Tries the list of this number, where the algorithm has its function, and counts it to those before.
+/// Tries the list with this number, if the algorithm has its function, and adds it to the count.
 fn try_number<P: Progress>(
     alloc: Global,
     subject: &Subject<'_>,
@@ -84,7 +84,7 @@ fn try_rounds<P: Progress>(
     Ok(trials)
 }
 
-/// Whether it is known by a theorem that the algorithm keeps its duties.
+/// Whether a theorem shows that the algorithm keeps its duties.
 fn is_proved(subject: &Subject<'_>) -> bool
     ensures serves { IsTrue result → Serves (board_in subject.now) (algorithm_in subject.now) subject.now.region }
     ensures exact { subject.now.region ≡ 0 → IsA1On (board_in subject.now) (algorithm_in subject.now) → IsTrue result }
@@ -92,7 +92,7 @@ fn is_proved(subject: &Subject<'_>) -> bool
     subject.region == 0 && a1_serves(subject.board, subject.algorithm)
 }
 
-/// What is known of one algorithm, once rounds of lists were tried.
+/// What is known of one algorithm after rounds of lists were tried.
 fn judge_one<P: Progress>(
     alloc: Global,
     subject: &Subject<'_>,
@@ -114,8 +114,8 @@ fn judge_one<P: Progress>(
     Ok(trials)
 }
 
-/// What is known of the algorithms of a board, one for each of its regions, once rounds of lists were tried of each up to the first breach. A bench
-/// whose record has no room for a call's operations is want of memory.
+/// What is known of the algorithms of a board, one for each region, after rounds of lists were tried of each up to the first breach. A
+/// bench with no room to record a call's operations counts as out of memory.
 pub fn judge<P: Progress>(
     alloc: Global,
     board: &Board,

@@ -23,7 +23,7 @@ pub(crate) struct Trial {
     pub tally: Tally,
 }
 
-/// The first place at which contents differ from those that are wanted.
+/// The first place at which the found contents differ from the wanted ones.
 fn first_difference(found: &[u8], wanted: &[u8]) -> Option<Difference>
     ensures some { IfSome result (IsFirstDifference found.now wanted.now) }
     ensures none { IfNone result ((k : ℕ) → k < length found.now → k < length wanted.now → slice_index found.now k ≡ slice_index wanted.now k) }
@@ -40,7 +40,7 @@ fn first_difference(found: &[u8], wanted: &[u8]) -> Option<Difference>
     None
 }
 
-/// What the end of a list shows. The bench has to have kept all calls: want of memory where its record had no room for them.
+/// What the end of a list shows. If the bench had no room to record all calls, the answer is out of memory.
 fn verdict_of(
     region: usize,
     plan: &Plan,
@@ -64,8 +64,8 @@ fn verdict_of(
     }
 }
 
-/// Tries a list, with contents and bytes of a seed. `cells` are as many as the board has; they hold any bytes before, and what the ideal device
-/// leaves behind it.
+/// Tries a list, with contents and bytes from a seed. `cells` has the length of the board's cells. It may hold any bytes before, and holds
+/// what the ideal device leaves after the list.
 pub(crate) fn try_plan(
     alloc: Global,
     subject: &Subject<'_>,

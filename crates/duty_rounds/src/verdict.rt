@@ -4,7 +4,7 @@ ghost use Rattle.std.specs.Prelude.{◌≡◌, ◌↔◌, IsTrue};
 use crate::plan::Plan;
 use duty_trials::{Breach, Tally, Turn};
 
-/// A cell that differs from what the ideal device leaves: its place among all cells, the byte that is wanted, and the one that was found.
+/// A cell that differs from what the ideal device leaves: its place among all cells, the wanted byte, and the found one.
 #[derive(Clone, Copy)]
 pub struct Difference {
     pub place: usize,
@@ -13,7 +13,7 @@ pub struct Difference {
 }
 
 /// A breach: the region of the board, the list, the seed of its contents and bytes, the call, how it broke, and the first cell that differs
-/// behind it.
+/// after the call.
 #[derive(Clone, Copy)]
 pub struct Broken {
     pub region: usize,
@@ -27,11 +27,11 @@ pub struct Broken {
 /// What is known of algorithms.
 #[derive(Clone, Copy)]
 pub enum Verdict {
-    /// They keep their duties, by a theorem.
+    /// The algorithms keep their duties, by a theorem.
     Proved,
     /// No list that was tried broke a duty.
     Tried,
-    /// One of them doesn't keep its duties.
+    /// One algorithm doesn't keep its duties.
     Broken(Broken),
 }
 
@@ -53,14 +53,14 @@ pub struct Report {
 impl Verdict {
     ghost use Rattle.duty_rounds.specs.Verdicts.{IsBroken, beside};
 
-    /// Whether it is a breach.
+    /// Whether a verdict is a breach.
     pub fn is_broken(&self) -> bool
         ensures { IsTrue result ↔ IsBroken self.now }
     {
         matches!(self, Verdict::Broken(_))
     }
 
-    /// What is known of algorithms none of which broke a duty, and of one more.
+    /// The verdict of several algorithms together, from that of the ones before and that of one more.
     pub(crate) fn beside(self, other: Verdict) -> Verdict
         ensures { result ≡ beside self other }
     {

@@ -20,7 +20,7 @@ hand_base h = h.calls.machine.ram_base
 abbrev pub hand_map : Hand → FlashMap
 hand_map h = unit_map h.calls.machine.unit
 
--- the point at which it stands, over these cells
+-- the point of the run over these cells
 abbrev pub hand_point : Hand → List ℕ → Point
 hand_point h cells = point_at h.calls h.arena 0 cells
 

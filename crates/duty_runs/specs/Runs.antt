@@ -1,4 +1,4 @@
--- What the run of a call decides.
+-- What one run of a call decides.
 use Rattle.std.specs.Prelude.{◌≡◌, ◌<◌, ℕ, true, List, length, map, slice_index, slice_index_or, None}
 use Rattle.armv6m_decode.specs.declared.registers.TheConstants.{PC}
 use Rattle.target_core.specs.World.{World}
@@ -20,22 +20,22 @@ use Rattle.duty_runs.specs.declared.went.Went.{Went}
 use Rattle.duty_runs.specs.declared.went.Went.TheVariants as went
 use Rattle.duty_runs.specs.Asks.{place_in, before_in, count_in, after_in, own_page}
 
--- what a run leaves is this state, over the cells that it leaves
+-- a run leaves this state, over its own cells
 pub record Leaves (left : State) (m : TargetMarks) (w : World) : Type 0 where
   pub marks : m ≡ left.marks
   pub world : over w left.world.cells ≡ left.world
   pub cells : length w.cells ≡ length left.world.cells
 
--- A call from a state, over these cells at hand, makes this number of steps and leaves a state, as every other run of it does. The cells at hand
--- are as their marks before the call say.
+-- A call from a state, over these cells, makes `steps` steps and leaves a state, and so does every other run of it. The cells of the run at
+-- hand are as their marks before the call say.
 pub record Decides (s : Setup) (task : Task) (st : State) (c : Call) (bytes : List ℕ) (from many : ℕ) (cells : List ℕ) (steps : ℕ) (left : State) : Type 0 where
   pub goes : Goes s (place_in task from many) st c bytes from (count_in task many) (before_in task many) (after_in task) (Leaves left)
   pub over' : goes.cells ≡ cells
   pub steps' : goes.steps ≡ steps
   pub marked : CellsAgree (own_page bytes) from (before_in task many) cells cells
 
--- A run stands at its end: R0 is the value of success and known in every run, as the PC is; no operation is open; its cells have the marks that
--- they are to have; and this state is left.
+-- A run is at its end. R0 is the value of success; R0 and the PC are known in every run. No operation is open, the cells have the marks
+-- that the task asks for, and this state is left.
 pub record Returns (h : Hand) (r : RunMarks) (a : Ask) (left : Between) : Type 0 where
   pub counter : is_known (mark_at r.core PC) ≡ true
   pub value : is_known (mark_at r.core 0) ≡ true

@@ -8,7 +8,7 @@ use Rattle.duty_proofs.specs.TargetMarks.{TargetMarks}
 use Rattle.duty_proofs.specs.Decided.{State}
 use Rattle.duty_runs.specs.declared.between.Between.{Between}
 
--- its marks, where the RAM lies from a base on and the flash by this map
+-- the marks of a target between two calls, with the RAM from `base` on and this flash map
 abbrev pub state_marks : ℕ → FlashMap → Between → TargetMarks
 state_marks base layout b = record {
   base = base;
@@ -21,7 +21,7 @@ state_marks base layout b = record {
   cells = [];
 }
 
--- the target itself, over these cells
+-- the target of such a state, over these cells
 abbrev pub state_world : ℕ → FlashMap → List ℕ → Between → World
 state_world base layout cells b = record { ram_base = base; ram = b.ram.items; map = layout; state = b.state; cells = cells }
 

@@ -1,4 +1,4 @@
--- One step of the run at hand, and its marks.
+-- One step of the run at hand, and the marks after it.
 use Rattle.std.specs.Prelude.{◌≡◌, ℕ, false, nat_eq, Option, Some}
 use Rattle.armv6m_step.specs.declared.ends.StepEnd.TheVariants as end
 use Rattle.armv6m_step.specs.Registers.{pc_of}
@@ -10,13 +10,13 @@ use Rattle.shadow_step.specs.Steps.{step_marks}
 use Rattle.duty_proofs.specs.Lockstep.{Fetches}
 use Rattle.duty_proofs.specs.TargetMarks.{TargetMarks, target_shadow, tick_by}
 
--- from a point away from the return point to the one after an instruction that went and a tick
+-- from a point away from the return point to the point after an instruction and a tick
 pub record Advances (return_at : ℕ) (x x' : Point) : Type 0 where
   pub went : step_end x ≡ end.Went
   pub away : nat_eq (pc_of x.core) return_at ≡ false
   pub leaves : x' ≡ ticked (instructed x)
 
--- there are marks after the instruction, an open operation is in the place then, and the tick changes the marks too
+-- there are marks after the instruction and after the tick, and an open operation is within the place
 pub record Steps (return_at : ℕ) (place : Option (ℕ × ℕ)) (x x' : Point) (r r' : Marks TargetMarks) : Type 0 where
   pub half : ℕ
   pub second : ℕ

@@ -1,4 +1,4 @@
-//! What is asked of the run of a call.
+//! What the run of a call has to meet.
 #![tactic(auto, using(std::proofs::lemmas::Bool::Decides::nat_tests))]
 
 ghost use Rattle.std.specs.Prelude.{◌≡◌, ◌<◌, ◌≤◌, ◌+◌, ◌^◌, length, IfSome, ℕ, slice_index, slice_index_or, IsTrue, IfOk, IfNone};
@@ -14,20 +14,20 @@ use faults::OutOfMemory;
 use shadow_step::Mark;
 use std::alloc::Global;
 
-/// What a call is to do.
+/// What a call has to do.
 #[derive(Clone, Copy, PartialEq, Eq)]
 pub enum Task {
-    /// Nothing to any cell, as Init and UnInit.
+    /// It changes no cell, such as Init and UnInit.
     Quiet,
     /// It erases its cells.
     Erases,
-    /// It programs the bytes to its cells, which are erased.
+    /// It programs the bytes to its cells, which are erased before.
     Programs,
-    /// It compares its cells with the bytes, which they hold.
+    /// It compares its cells with the bytes, which they hold before.
     Compares,
 }
 
-/// A call, its bytes, what it is to do, and its cells: the first one and how many.
+/// A call, its bytes, its task, and its cells: the first one and how many.
 #[derive(Clone, Copy)]
 pub struct Ask<'a> {
     pub call: Call,
@@ -37,7 +37,7 @@ pub struct Ask<'a> {
     pub many: u32,
 }
 
-/// How many bytes there are, where that is a number of 32 bits.
+/// How many bytes there are, if the number fits 32 bits.
 pub(crate) fn count_of(bytes: &[u8]) -> Option<u32>
     ensures count { IfSome result (λ count. count ≡ length bytes.now) }
     ensures bytes { (k : ℕ) → slice_index bytes.now k < 2 ^ 8 }
@@ -60,7 +60,7 @@ fn named_cells(alloc: Global, count: u32) -> Result<Vec<CellMark>, OutOfMemory>
     Ok(cells)
 }
 
-/// The mark of a cell, which may be any where none is kept.
+/// The mark of a cell, or a mark that says nothing if none is kept.
 fn mark_at(marks: &[CellMark], index: usize) -> CellMark
     ensures { result ≡ slice_index_or marks.now index (Holds Any) }
 {
@@ -71,7 +71,7 @@ fn mark_at(marks: &[CellMark], index: usize) -> CellMark
 }
 
 impl<'a> Ask<'a> {
-    /// The place in which it may open operations.
+    /// The cells in which the call may open operations.
     pub(crate) fn place(&self) -> Option<(u32, u32)>
         ensures { result ≡ place_in self.now.task self.now.from self.now.many }
     {
@@ -81,7 +81,7 @@ impl<'a> Ask<'a> {
         }
     }
 
-    /// The marks of its cells before it.
+    /// The marks of the call's cells before it.
     pub(crate) fn before(&self, alloc: Global) -> Result<Vec<CellMark>, OutOfMemory>
         ensures { IfOk result (λ cells. cells.items ≡ before_in self.now.task self.now.many) }
     {
@@ -94,7 +94,7 @@ impl<'a> Ask<'a> {
         }
     }
 
-    /// Whether the value of a cell at hand is as its mark before the call says.
+    /// Whether a cell at hand has the value that its mark before the call gives.
     fn cell_fits(&self, index: u32, value: u8) -> bool
         ensures { IsTrue result → FitsCell self.now.task self.now.bytes.now index value }
     {
@@ -108,7 +108,7 @@ impl<'a> Ask<'a> {
         }
     }
 
-    /// Whether its cells are there, and their values at hand are as their marks before the call say.
+    /// Whether the call's cells exist, and have the values that their marks before the call give.
     pub(crate) fn fits(&self, cells: &[u8]) -> bool
         ensures room { IsTrue result → self.now.from + self.now.many ≤ length cells.now }
         ensures fits { IsTrue result → (k : ℕ) → k < self.now.many → FitsCell self.now.task self.now.bytes.now k (slice_index cells.now (self.now.from + k)) }
@@ -125,7 +125,7 @@ impl<'a> Ask<'a> {
         true
     }
 
-    /// How many cells are to have marks after it.
+    /// How many cells need a mark after the call.
     pub(crate) fn count(&self) -> u32
         ensures { result ≡ count_in self.now.task self.now.many }
     {
@@ -135,7 +135,7 @@ impl<'a> Ask<'a> {
         }
     }
 
-    /// Whether a cell has the mark that it is to have after it.
+    /// Whether a cell has the mark that it needs after the call.
     fn is_left(&self, index: u32, mark: CellMark) -> bool
         ensures { IsTrue result → mark ≡ after_in self.now.task index }
     {
@@ -147,7 +147,7 @@ impl<'a> Ask<'a> {
         }
     }
 
-    /// The first cell that doesn't have the mark that it is to have after it, and its mark.
+    /// The first cell without the mark that it needs after the call, and the mark that it has.
     pub(crate) fn odd_cell(&self, marks: &[CellMark]) -> Option<(u32, CellMark)>
         ensures { IfNone result ((k : ℕ) → k < count_in self.now.task self.now.many → slice_index_or marks.now k (Holds Any) ≡ after_in self.now.task k) }
     {
@@ -160,7 +160,7 @@ impl<'a> Ask<'a> {
         None
     }
 
-    /// What keeps the marks of its cells after it from being those that they are to be.
+    /// Why the marks of the cells after the call aren't those that they need, if so.
     pub(crate) fn odd(&self, marks: &Marked<'_>) -> Option<Cause>
         ensures from { IfNone result (marks.now.from ≡ self.now.from) }
         ensures all { IfNone result ((k : ℕ) → k < count_in self.now.task self.now.many

@@ -18,7 +18,7 @@ use shadow_step::{CoreMarks, Mark};
 use std::alloc::Global;
 use target_core::RunEnd;
 
-/// The frame of a call sets all registers and flags.
+/// The marks of the core at a call: its frame sets all registers and flags.
 fn all_known() -> CoreMarks
     ensures { result ≡ all_known }
 {
@@ -54,7 +54,7 @@ impl<'a> Hand<'a> {
     ghost use Rattle.duty_runs.specs.Hands.{hand_setup, hand_base, hand_map, hand_point, run_marks};
     ghost use Rattle.duty_runs.specs.Runs.{Decides, IfBack, Returns};
 
-    /// The marks at which a call begins, from a state between calls; none where its bytes have no room in the RAM.
+    /// The marks at the beginning of a call from a state between calls, or none if the RAM has no room for its bytes.
     fn begin(
         &self,
         alloc: Global,
@@ -85,7 +85,7 @@ impl<'a> Hand<'a> {
         }))
     }
 
-    /// Stands at the first point of a call from a state between two calls, and gives the steps that the call may make.
+    /// Goes to the first point of a call from a state between two calls. The answer is how many steps the call may make.
     fn stand(&mut self, state: &Between, ask: &Ask<'_>) -> u64
         requires may { MayAsk (hand_setup self.old) ask.now.call ask.now.bytes.now }
         requires ram { length state.now.ram.items ≡ (hand_setup self.old).ram_size }
@@ -102,7 +102,7 @@ impl<'a> Hand<'a> {
         self.calls.prepare(&mut self.arena, 0, &ask.call, ask.bytes)
     }
 
-    /// What a run decides that has come to the return point by this number of steps.
+    /// What a run decides that reached the return point after this number of steps.
     fn back(
         &self,
         alloc: Global,
@@ -147,9 +147,9 @@ impl<'a> Hand<'a> {
         matches!(end, CallEnd::Done)
     }
 
-    /// Makes a call from a state between two calls, step by step, over the cells of a bench, by fewer than `limit` steps. Where it comes back, this
-    /// run decides the call from this state: every other run goes so too. After an answer that decides nothing the target is at some point of the
-    /// call.
+    /// Makes a call from a state between two calls, step by step, over the cells of a bench, in fewer than `limit` steps. If it returns,
+    /// the run decides the call from this state: every other run goes the same way. After any other answer the target is at some point of
+    /// the call.
     pub fn go(
         &mut self,
         alloc: Global,

@@ -1,4 +1,4 @@
-//! One step of the run at hand, and its marks.
+//! One step of the run at hand, and the marks after it.
 
 ghost use Rattle.std.specs.Prelude.{◌≡◌, IsTrue};
 ghost use Rattle.flash_layout.specs.Work.{range_of};
@@ -18,7 +18,7 @@ pub(crate) struct RunMarks<'a> {
     pub target: Marked<'a>,
 }
 
-/// Whether an open operation is in a place. With no place none may be open.
+/// Whether an open operation is in a place. Without a place none may be open.
 #[tactic(auto, using(std::proofs::lemmas::Bool::Decides::nat_tests))]
 fn opens_in(place: Option<(u32, u32)>, operation: Option<Operation>) -> bool
     ensures { IsTrue result → OpensIn place (range_of operation) }
@@ -41,7 +41,7 @@ impl<'a> Hand<'a> {
     ghost use Rattle.duty_runs.specs.Hands.{hand_setup, hand_map, hand_point, run_marks};
     ghost use Rattle.duty_runs.specs.Steps.{Steps};
 
-    /// Makes one step with its marks, if it goes and they say how every other run goes.
+    /// Makes one step with its marks, if it continues and the marks say that every other run does.
     pub(crate) fn step(
         &mut self,
         bench: &mut MemoryBench,

@@ -7,9 +7,9 @@ use target_core::RunEnd;
 /// Why a run decides nothing.
 #[derive(Clone, Copy)]
 pub enum Cause {
-    /// The cells at hand don't fit the marks before the call, or aren't there.
+    /// The cells at hand don't fit the marks before the call, or don't exist.
     Cells,
-    /// The bytes of the call have no room in the RAM.
+    /// The RAM has no room for the bytes of the call.
     Room,
     /// The PC isn't in the RAM.
     Fetch,
@@ -17,32 +17,32 @@ pub enum Cause {
     NoMarks,
     /// An operation isn't in the place of the call, or the call has no place.
     Outside,
-    /// The run ended so.
+    /// The run ended this way.
     Ended(RunEnd),
-    /// It returned with this value, which isn't the one of success.
+    /// The call returned with this value, which isn't the value of success.
     Answer {
         /// R0 at the return.
         r0: u32,
     },
-    /// It returned with a value that may differ in other runs.
+    /// The call returned with a value that may differ in other runs.
     AnswerAny,
     /// An operation was open at the return.
     Open,
-    /// A cell of the place doesn't have the mark that it is to have.
+    /// A cell of the place doesn't have the mark that it needs.
     Cell {
         /// The number of the cell in its place.
         index: u32,
         /// The mark that it has.
         mark: CellMark,
     },
-    /// It didn't return within its fuel, or within the steps that it was allowed here.
+    /// The call didn't return within its fuel, or within the steps allowed here.
     Long,
 }
 
 /// How the run of a call went.
 #[derive(Drop)]
 pub enum Went {
-    /// It came back, and every other run does too.
+    /// The call returned, and so does every other run of it.
     Back {
         /// The target between this call and the next.
         left: Between,

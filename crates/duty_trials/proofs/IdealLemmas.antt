@@ -93,7 +93,7 @@ module _ (site : Site) (r : Range) (x y : List ℕ) (among : site.start + site.l
             get_or-drop n y i 0 ∙ only.same (n + i) (inr (omega (arith, below))) ∙ sym (get_or-drop n x i 0)),
       )
 
-  -- and all else of the region
+  -- all other cells of the region stay
   pub stays : Stays r (part site x) (part site y)
   stays = (
     part_long site y here ∙ sym (part_long site x among),

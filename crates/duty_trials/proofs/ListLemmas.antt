@@ -49,11 +49,11 @@ skip f p (false ∷ rest) zero is = refl
 skip f p (true ∷ rest) (suc k) is = ap (λ (xs : List Duty). f p ∷ xs) (skip f (p + 1) rest k is)
 skip f p (false ∷ rest) (suc k) is = skip f (p + 1) rest k is
 
--- or isn't
+-- a number that isn't in the set adds no member
 pub members_skip : (f : ℕ → Duty) (set : List Bool) (k : ℕ) → get_or set k false ≡ false → members f 0 (take (k + 1) set) ≡ members f 0 (take k set)
 members_skip f set k is = ap (λ (n : ℕ). members f 0 (take n set)) (add-one k) ∙ skip f 0 set k is
 
--- up to a member and behind it
+-- the members of a set are those up to a member, that member, and those after it
 pub split : (f : ℕ → Duty) (p : ℕ) (set : List Bool) (k : ℕ) → get_or set k false ≡ true
     → members f p set ≡ members f p (take k set) ++ f (p + k) ∷ members f (p + suc k) (drop (suc k) set)
 split f p [] k is = let no : false ≡ true = is in absurd cc
@@ -140,13 +140,13 @@ IsTurn set turn.Init = Unit {0}
 IsTurn set (turn.Member k) = get_or set k false ≡ true
 IsTurn set turn.UnInit = Unit {0}
 
--- the calls behind it
+-- the calls of a list after a turn
 abbrev pub behind_turn : Setup → Geometry → Work → List Bool → List ℕ → Turn → List Duty
 behind_turn s l w set held turn.Init = members (work_on s l w held) 0 set ++ uninit_of w ∷ []
 behind_turn s l w set held (turn.Member k) = members (work_on s l w held) (suc k) (drop (suc k) set) ++ uninit_of w ∷ []
 behind_turn s l w set held turn.UnInit = []
 
--- the list up to the call and behind it
+-- a list is the calls up to a turn, the call of that turn, and the calls after it
 list_turns : (s : Setup) (l : Geometry) (w : Work) (set : List Bool) (held : List ℕ) (t : Turn) → IsTurn set t
     → init_of w ∷ (members (work_on s l w held) 0 set ++ uninit_of w ∷ []) ≡ before_turn s l w set held t ++ duty_at s l w held t ∷ behind_turn s l w set held t
 list_turns s l w set held turn.Init is = refl

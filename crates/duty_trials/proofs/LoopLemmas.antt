@@ -50,7 +50,7 @@ page_stays : (s : Setup) (site : Site) (k j : ℕ) (bytes x y : List ℕ) → Is
 unfolding Acts
 page_stays s site k j bytes x y good other does i inside = does.leads.4.1 i (λ there. other (good.pages_part.apart k j i there inside))
 
--- so one that is empty stays so
+-- a later work may still be done after another one: an empty page stays empty
 may_later : (s : Setup) (site : Site) (w : Work) (held : List ℕ) (k j : ℕ) (x y : List ℕ) → IsGeometry site.layout → k < j
     → Does s site x (work_on s site.layout w held k) y
     → MayWork s site x w j → MayWork s site y w j
@@ -60,7 +60,7 @@ may_later s site work.Pages held k j x y good less does may = λ i inside.
     page_stays s site k j (bytes_in (range_at site.layout.pages k) held) x y good (λ same. absurd (omega (arith, less, same))) does i inside ∙ may i inside
 may_later s site work.Checks held k j x y good less does may = tt
 
--- and the works before it are the same with the cells that it leaves
+-- the works before number `k` are the same over the cells that work `k` leaves
 work_same : (s t : Setup) (site : Site) (w : Work) (held : List ℕ) (k j : ℕ) (x y : List ℕ) → IsGeometry site.layout → j < k
     → Does s site x (work_on t site.layout w held k) y
     → work_on t site.layout w (part site x) j ≡ work_on t site.layout w (part site y) j
@@ -159,7 +159,7 @@ breaks b a region w set before ideal t s x list same bytes still is setup stands
 
 -- ---- where a list has come
 
--- All calls before number `k` were kept: the target stands behind them, over the cells that the ideal device leaves, with no operation open.
+-- All calls before number `k` were kept. The target has made them, over the cells that the ideal device leaves, and no operation is open.
 pub record Goes (b : BoardShown) (a : AlgorithmShown) (region : ℕ) (w : Work) (set : List Bool) (before : List ℕ) (k : ℕ) (s : Setup) (x : World)
     (operation : Option (ℕ × ℕ))
     (ideal : List ℕ) : Type 0 where
@@ -173,7 +173,7 @@ pub record Goes (b : BoardShown) (a : AlgorithmShown) (region : ℕ) (w : Work) 
   pub may : (j : ℕ) → k ≤ j → get_or set j false ≡ true → MayWork (setup_of a b) (site_of b a region) ideal w j
   pub idle : operation ≡ None
 
--- behind Init
+-- the loop's state after Init
 pub goes_first : (b : BoardShown) (a : AlgorithmShown) (region : ℕ) (w : Work) (set : List Bool) (before : List ℕ) (kind : ℕ) (s s' : Setup) (x x' : World)
     (operation : Option (ℕ × ℕ))
     → IsList b a region w set before → kind ≡ kind_in w → s ≡ setup_of a b → s' ≡ s → x ≡ ready b a before → x' ≡ after s x (asked (call.Init kind) [])
@@ -209,7 +209,7 @@ goes_past b a region w set before k s x operation ideal isnt goes = record {
   idle = goes.idle;
 }
 
--- the same under other names
+-- the loop's state for values that are equal to these
 goes_as : (b : BoardShown) (a : AlgorithmShown) (region : ℕ) (w : Work) (set : List Bool) (before : List ℕ) (k : ℕ) (s s' : Setup) (x x' : World)
     (operation operation' : Option (ℕ × ℕ))
     (ideal ideal' : List ℕ) → s' ≡ s → x' ≡ x → operation' ≡ operation → ideal' ≡ ideal → Goes b a region w set before k s x operation ideal
@@ -287,7 +287,7 @@ module _ (b : BoardShown) (a : AlgorithmShown) (region : ℕ) (w : Work) (set : 
         (λ (isnt : get_or set k false ≡ false). absurd (subst (λ (r : Tried). IsBroken r) (tries.passes isnt).3 broken))
         (is_or_not (get_or set k false))
 
-    -- and where it was kept, or wasn't made
+    -- the loop's state after a member whose call was kept, or which has no call
     pub goes_on : (s' : Setup) → s' ≡ s → IsKept result → Goes b a region w set before (k + 1) s' x' operation' ideal'
     goes_on s' setup kept = ⊎_elim
         (λ (has : get_or set k false ≡ true).
@@ -305,7 +305,7 @@ pub init_breaks : (b : BoardShown) (a : AlgorithmShown) (region : ℕ) (w : Work
 init_breaks b a region w set before s x list setup stands broken =
     breaks b a region w set before before turn.Init s x list refl list.bytes (λ is. refl) tt setup stands broken
 
--- and where UnInit did
+-- the list breaks at UnInit if UnInit isn't kept
 pub uninit_breaks : (b : BoardShown) (a : AlgorithmShown) (region : ℕ) (w : Work) (set : List Bool) (before : List ℕ) (k : ℕ) (s : Setup) (x : World)
     (operation : Option (ℕ × ℕ)) (ideal : List ℕ)
     → All (λ v. v < 2 ^ 8) ideal → length set ≤ k → Goes b a region w set before k s x operation ideal

@@ -39,7 +39,7 @@ before_few [] (suc k) = omega arith
 before_few (r ∷ rest) zero = omega arith
 before_few (r ∷ rest) (suc k) = omega (arith, before_few rest k)
 
--- so those with a region are no more than all
+-- the cells up to a region's end are no more than all cells
 pub region_within : (regions : List Region) (k : ℕ) (other : Region) → k < length regions
     → cells_before (areas_of regions) k + (get_or regions k other).size ≤ cells_in (areas_of regions)
 region_within regions k other less = omega (arith, before_more regions k other less, before_few regions (k + 1))
@@ -58,7 +58,7 @@ pub is_placed : (b : BoardShown) (a : AlgorithmShown) (region : ℕ) → IsFit b
 is_placed b a region fit =
     ap (λ (t : Bool). if t then Ok (layout_of a b) else Err (record { need = need_of a b; have = b.ram_size })) (le-leb (need_of a b) b.ram_size fit.room)
 
--- and its device lies among the board's cells
+-- the device of an algorithm for a region is within the board's cells
 pub fit_within : (b : BoardShown) (a : AlgorithmShown) (region : ℕ) → IsFit b a region
     → (region < length b.regions) × (cells_before (areas_of b.regions) region + a.device.size ≤ cells_in (areas_of b.regions))
 fit_within b a region fit =
@@ -88,7 +88,7 @@ page_short t k span less is =
     geometry_fits (shape t.algorithm.now.device.size t.algorithm.now.device.page t.algorithm.now.items) in
     omega (arith, fits k less, is.from, is.to)
 
--- so does what is taken of it out of all cells
+-- the bytes of a page, taken from all cells, fit the page buffer
 pub taken_short : (t : Subject) (k : ℕ) (span : Span) (cells : List ℕ) → k < length (site_in t).layout.pages
     → IsSpan t (range_at (site_in t).layout.pages k) span
     → length (take (span.to - span.from) (drop span.from cells)) ≤ t.algorithm.now.device.page

@@ -39,8 +39,7 @@ cell_differs s site w d r start e w' end wanted is gives fine does differ keeps 
     differ (ap (λ (x : World). x.cells) ((ends_so s w r start e w' end fine gives.ends).1 ∙ sym (ap (λ (q : Request). after s w q) is))
     ∙ does_same s site d w.cells (after s w (request_of s site.layout d)).cells wanted keeps.leaves does)
 
--- One at a moment of which a stop of the power might have left a cell outside its place other than it was isn't kept: so an operation that
--- was open there.
+-- A call isn't kept if at some moment a loss of power might have changed a cell outside its place: an operation was open there.
 pub outside : (s : Setup) (site : Site) (w : World) (d : Duty) (r : Request) (start : BenchState) (e : CallEnd) (w' : World) (end : BenchState)
     → request_of s site.layout d ≡ r → CallGives s w r start e w' end → is_device_call e ≡ false → IsGeometry site.layout
     → site.start + site.layout.size ≤ length w.cells
@@ -50,7 +49,7 @@ outside s site w d r start e w' end is gives fine good within seen keeps =
     let on : IsLeftOn (path_of s w (request_of s site.layout d)) seen.left = subst (λ (q : Request). IsLeftOn (path_of s w q) seen.left) (sym is) left in
     seen.differs (kept_local s site w d good within keeps seen.left on)
 
--- the step of a loop over a list: the target behind one call more
+-- the target after the calls of a list and one call more
 pub world_more : (s : Setup) (site : Site) (w : World) (before : List Duty) (d : Duty)
     → world_after s site w (before ++ d ∷ []) ≡ after s (world_after s site w before) (request_of s site.layout d)
 world_more s site w [] d = refl

@@ -180,7 +180,7 @@ emptied t r span x y is long below only put =
     filled (site_in t) r x y (among t x long) below (only_as t r span x y is only) t.algorithm.now.device.empty
     (λ i above under. put i (omega (arith, above, is.from)) (omega (arith, under, is.to)))
 
--- and one that was empty stays so
+-- a range that was empty stays empty when the empty value is put to some cells
 pub stays_empty : (t : Subject) (r : Range) (from to : ℕ) (x y : List ℕ) → r.stop ≤ (site_in t).layout.size → OnlyBetween from to x y
     → ((i : ℕ) → from ≤ i → i < to → slice_index y i ≡ t.algorithm.now.device.empty) → IsEmpty t.algorithm.now.device.empty r (part (site_in t) x)
     → IsEmpty t.algorithm.now.device.empty r (part (site_in t) y)

@@ -5,7 +5,7 @@ use Rattle.board_file.specs.Shown.{Shown as BoardShown}
 use Rattle.flm_descriptor.specs.Shown.{Shown as AlgorithmShown}
 use Rattle.algo_loader.specs.Places.{need_of}
 
--- the algorithm is one for the region: its device is the region, and the board's RAM has room for it
+-- an algorithm is one for a region: its device is the region, and the board's RAM has room for it
 pub record IsFit (b : BoardShown) (a : AlgorithmShown) (region : ℕ) : Type 0 where
   pub its : Region
   pub is : slice_get b.regions region ≡ Some its

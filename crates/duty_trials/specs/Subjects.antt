@@ -1,4 +1,4 @@
--- What is tried, as contracts name it.
+-- The subject of trials, as contracts name it.
 use Rattle.std.specs.Prelude.{◌≡◌, ◌≤◌, ◌+◌}
 use Rattle.board_file.specs.Shown.{Shown as BoardShown, shown as board_of}
 use Rattle.flm_descriptor.specs.Shown.{Shown as AlgorithmShown, shown as algorithm_of}
@@ -20,7 +20,7 @@ setup_for t = setup_of (algorithm_in t) (board_in t)
 abbrev pub site_in : Subject → Site
 site_in t = site_of (board_in t) (algorithm_in t) t.region
 
--- a range of the device: its address, and its places among all cells
+-- a span is a range of the device: its address, and its places among all cells
 pub record IsSpan (t : Subject) (r : Range) (span : Span) : Type 0 where
   pub address : span.address ≡ (algorithm_in t).device.base + r.start
   pub from : span.from ≡ (site_in t).start + r.start

@@ -1,15 +1,15 @@
--- What is counted of calls.
+-- Counts of the calls that were made.
 use Rattle.std.specs.Prelude.{◌≤◌, ◌+◌, ◌-◌, ◌^◌, ℕ, min, max}
 use Rattle.algo_calls.specs.declared.call.Call.{Call}
 use Rattle.algo_calls.specs.declared.call.Call.TheVariants as call
 use Rattle.duty_trials.specs.declared.tally.Count.{Count}
 use Rattle.duty_trials.specs.declared.tally.Tally.{Tally}
 
--- a count stands still at 2^64 - 1
+-- two counts together; the number of calls stops at 2^64 - 1
 abbrev pub joined : Count → Count → Count
 joined a b = record { calls = min (a.calls + b.calls) (2 ^ 64 - 1); most = max a.most b.most; allowed = max a.allowed b.allowed }
 
--- one call
+-- the count of one call
 abbrev pub one_of : ℕ → ℕ → Count
 one_of steps allowed = record { calls = 1; most = steps; allowed = allowed }
 
@@ -31,11 +31,11 @@ both a b = record {
   verify = joined a.verify b.verify;
 }
 
--- how many there are
+-- how many calls a tally has
 abbrev pub calls_in : Tally → ℕ
 calls_in t = t.init.calls + t.uninit.calls + t.erase_sector.calls + t.erase_chip.calls + t.program_page.calls + t.verify.calls
 
--- none took more steps than its time-out allows
+-- no call took more steps than its time-out allows
 pub record AreWithin (t : Tally) : Type 0 where
   pub init : t.init.most ≤ t.init.allowed
   pub uninit : t.uninit.most ≤ t.uninit.allowed

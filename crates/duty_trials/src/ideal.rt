@@ -5,19 +5,19 @@ ghost use Rattle.duty_trials.specs.Ended.{OnlyBetween};
 /// The bytes that pages are programmed with.
 #[derive(Clone, Copy)]
 pub enum PageBytes {
-    /// Random ones.
+    /// Random bytes.
     Random,
-    /// All 0.
+    /// 0 in each byte.
     Zero,
-    /// All the empty value.
+    /// The empty value in each byte.
     Empty,
-    /// The empty value but for the first byte.
+    /// The empty value in each byte but the first.
     First,
-    /// The empty value but for the last byte.
+    /// The empty value in each byte but the last.
     Last,
 }
 
-/// The bytes of pages, of which the random ones come of a seed, and the value of an empty cell.
+/// What pages are filled with: the bytes of pages, the seed of random bytes, and the value of an empty cell.
 #[derive(Clone, Copy)]
 pub struct Filling {
     pub bytes: PageBytes,
@@ -25,7 +25,7 @@ pub struct Filling {
     pub empty: u8,
 }
 
-/// A number of a seed that looks random (Steele, Lea and Flood, "Fast splittable pseudorandom number generators").
+/// A number that looks random, made from a seed (Steele, Lea and Flood, "Fast splittable pseudorandom number generators").
 pub fn mix(seed: u64) -> u64 {
     let z = seed.wrapping_add(0x9E37_79B9_7F4A_7C15);
     let z = (z ^ (z >> 30)).wrapping_mul(0xBF58_476D_1CE4_E5B9);
@@ -33,12 +33,12 @@ pub fn mix(seed: u64) -> u64 {
     z ^ (z >> 31)
 }
 
-/// The byte of a seed at a place.
+/// The random byte of a seed at a place.
 pub fn random_byte(seed: u64, place: u64) -> u8 {
     (mix(seed ^ mix(place)) % 256) as u8
 }
 
-/// Puts one value to places of some cells.
+/// Writes one value to a range of cells.
 pub fn fill(cells: &mut [u8], from: u32, to: u32, value: u8)
     requires order { from ≤ to }
     requires within { to ≤ length cells.old }
@@ -51,7 +51,7 @@ pub fn fill(cells: &mut [u8], from: u32, to: u32, value: u8)
 }
 
 impl Filling {
-    /// The byte at a place of a page of so many bytes, which begins at a place of all cells.
+    /// A byte of a page of `len` bytes, by its place in the page and the page's place among all cells.
     fn byte_at(&self, page: u32, place: u32, len: u32) -> u8 {
         match self.bytes {
             PageBytes::Random => random_byte(self.seed, u64::from(page) + u64::from(place)),
@@ -62,7 +62,7 @@ impl Filling {
         }
     }
 
-    /// Puts the bytes of the page that has these places.
+    /// Writes the bytes of the page that has these places.
     pub fn put(&self, cells: &mut [u8], from: u32, to: u32)
         requires order { from ≤ to }
         requires within { to ≤ length cells.old }

@@ -1,8 +1,8 @@
 //! Lists of calls of a flash algorithm, tried on a bench in memory against the duties of the algorithm.
 //!
-//! A `Subject` is an algorithm for a region of a board. A `Stand` is a target with it, over cells that are told. `Stand::try_list` makes the calls
-//! of a list, and compares each with what the ideal device does. Where it tells a breach, the algorithm doesn't keep its duties. Where it
-//! tells none, nothing more is said.
+//! A `Subject` is an algorithm for a region of a board. A `Stand` is a target with it, over known cells. `Stand::try_list` makes the calls
+//! of a list, and compares each with what the ideal device does. If it reports a breach, the algorithm doesn't keep its duties. If it
+//! reports none, nothing more is known.
 #![tactic(auto)]
 
 mod ideal;

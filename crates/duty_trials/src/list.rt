@@ -19,11 +19,11 @@ pub enum Work {
 /// A call of a list.
 #[derive(Clone, Copy)]
 pub enum Turn {
-    /// The first.
+    /// Init, the first call.
     Init,
-    /// The one that works on the sector or page of this number.
+    /// The call that works on the sector or page with this number.
     Member(u32),
-    /// The last.
+    /// UnInit, the last call.
     UnInit,
 }
 
@@ -41,7 +41,7 @@ pub enum Ended {
 impl Work {
     ghost use Rattle.duty_trials.specs.Lists.{kind_in};
 
-    /// What Init and UnInit are told.
+    /// The number that Init and UnInit get as their function code.
     pub fn kind(self) -> u32
         ensures { result ≡ kind_in self }
     {
@@ -56,7 +56,7 @@ impl Work {
 impl Ended {
     ghost use Rattle.duty_trials.specs.Ended.{ended_at};
 
-    /// The end of a list whose call at this turn was tried last.
+    /// How a list ended, if this turn was tried last.
     pub(crate) fn at(turn: Turn, tried: Tried) -> Ended
         ensures { result ≡ ended_at turn tried }
     {

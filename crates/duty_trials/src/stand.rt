@@ -1,4 +1,4 @@
-//! A target with an algorithm, and a bench in memory, whose open operation is the controller's.
+//! A target with an algorithm, and a bench in memory that has the controller's operation as its open one.
 ghost use Rattle.std.specs.Prelude.{◌≡◌, ◌<◌, ◌^◌, ◌↔◌, true, length, All, None, IsTrue, IfOk};
 ghost use Rattle.bench_model.specs.Shown.{bench_of};
 ghost use Rattle.flash_layout.specs.Maps.{board_map};
@@ -17,7 +17,7 @@ use ram_arena::Arena;
 use std::alloc::Global;
 use target_core::{Machine, SliceEnd};
 
-/// A target with an algorithm, a bench in memory, and what is counted of the calls.
+/// A target with an algorithm, a bench in memory, and the counts of its calls.
 #[derive(Drop)]
 pub struct Stand {
     calls: CallsIn,
@@ -33,20 +33,20 @@ pub struct Stand {
 /// How a call broke its duty.
 #[derive(Clone, Copy)]
 pub enum Breach {
-    /// It didn't end with the value of success.
+    /// The call didn't end with the value of success.
     NotDone {
-        /// How it ended.
+        /// How the call ended.
         end: CallEnd,
     },
-    /// A cell differs behind it from the one that the ideal device leaves.
+    /// After the call a cell differs from the one that the ideal device leaves.
     Cell,
-    /// It left an operation open.
+    /// The call left an operation open.
     LeftOpen,
-    /// An operation didn't lie in its place.
+    /// An operation wasn't within the place of the call.
     Outside {
-        /// Its first cell.
+        /// The first cell of the operation.
         at: u32,
-        /// How many cells it covers.
+        /// How many cells the operation covers.
         len: u32,
     },
 }
@@ -70,20 +70,20 @@ struct Made {
     allowed: u64,
 }
 
-/// Whether the contents are the same.
+/// Whether two contents are the same.
 fn is_same(cells: &[u8], wanted: &[u8]) -> bool
     ensures { IsTrue result ↔ (cells.now ≡ wanted.now) }
 {
     cells == wanted
 }
 
-/// The units of the bench's record: enough for a call that erases each sector by itself, or programs each byte of a page by itself.
+/// The units of the bench's record: enough for a call that erases each sector by its own operation, or programs each byte of a page so.
 fn room(subject: &Subject<'_>) -> u64 {
     let sectors = u64::from(subject.geometry.sectors());
     4096 + 4 * sectors + 4 * u64::from(subject.algorithm.device.page)
 }
 
-/// A bench with these cells, on which no operation is open.
+/// A bench with these cells, and no open operation.
 fn bench_with(
     alloc: Global,
     subject: &Subject<'_>,
@@ -140,14 +140,14 @@ impl Stand {
         })
     }
 
-    /// The cells.
+    /// The cells of the bench.
     pub fn cells(&self) -> &[u8]
         ensures { result.now ≡ (world_in self.now).cells }
     {
         self.bench.cells()
     }
 
-    /// Makes a call in one piece.
+    /// Makes one whole call.
     fn make(&mut self, call: &Call, bytes: &[u8]) -> Made
         requires { MayAsk (setup_in self.old) call.now bytes.now }
         ensures gives { CallGives (setup_in self.old) (world_in self.old) (asked call.now bytes.now) (state_in self.old) result.end
@@ -172,7 +172,7 @@ impl Stand {
         }
     }
 
-    /// Whether the cells are the ones that are wanted, which are bytes.
+    /// Whether the cells are the wanted ones, which are bytes.
     fn holds(&self, wanted: &[u8]) -> bool
         ensures same { IsTrue result ↔ ((world_in self.now).cells ≡ wanted.now) }
         ensures bytes { All (λ v. v < 2 ^ 8) wanted.now }
@@ -180,7 +180,7 @@ impl Stand {
         is_same(self.bench.cells(), wanted)
     }
 
-    /// Makes a call whose operations are to lie in a range, and compares what it leaves with what the ideal device does.
+    /// Makes a call that may open operations only in a range, and compares what it leaves with what the ideal device leaves.
     pub(crate) fn step(
         &mut self,
         call: &Call,

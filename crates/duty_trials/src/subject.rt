@@ -1,4 +1,4 @@
-//! What is tried: an algorithm, for a region of a board.
+//! The subject of trials: an algorithm, for a region of a board.
 ghost use Rattle.std.specs.Prelude.{◌≡◌, ◌≤◌, ◌<◌, ◌+◌, ◌^◌, Ok, length, IfOk};
 ghost use Rattle.board_file.specs.Shown.{shown as board_of};
 ghost use Rattle.flm_descriptor.specs.Shown.{shown as algorithm_of};
@@ -23,9 +23,9 @@ pub struct Subject<'a> {
     pub algorithm: &'a Algorithm,
     /// The number of the region, from 0 on.
     pub region: usize,
-    /// Where the algorithm lies in the RAM.
+    /// Where the algorithm is in the RAM.
     pub layout: Layout,
-    /// The sectors and pages of its device.
+    /// The sectors and pages of the algorithm's device.
     pub geometry: Geometry,
     /// The place of the region's first cell among all cells of the board.
     pub start: u32,
@@ -39,7 +39,7 @@ pub struct Subject<'a> {
     pub ghost within: { start + algorithm.now.device.size ≤ cells },
 }
 
-/// A sector, a page or the whole device: the address of its first byte, and its first place among all cells and the one behind its last.
+/// A sector, a page or the whole device: the address of its first byte, its first place among all cells, and the place after its last.
 #[derive(Clone, Copy)]
 pub struct Span {
     pub address: u32,
@@ -47,7 +47,7 @@ pub struct Span {
     pub to: u32,
 }
 
-/// How many cells the first regions have together, which are so many.
+/// How many cells the first `count` regions have together.
 fn cells_before(regions: &[Region], count: usize) -> u32
     requires few { cells_in (areas_of regions.now) < 2 ^ 32 }
     requires inside { count ≤ length regions.now }
@@ -67,7 +67,7 @@ impl<'a> Subject<'a> {
     ghost use Rattle.duty_trials.specs.Lists.{count_of, HasFunction};
     ghost use Rattle.duty_trials.specs.Subjects.{algorithm_in, site_in, IsSpan};
 
-    /// An algorithm for a region of a board, which it has to be one for.
+    /// A subject: an algorithm, and a region of a board. The algorithm has to be one for that region.
     pub fn new(
         alloc: Global,
         board: &'a Board,
@@ -123,7 +123,7 @@ impl<'a> Subject<'a> {
         self.span(0, self.geometry.size())
     }
 
-    /// So many places of the device from one on.
+    /// `len` places of the device from `at` on.
     fn span(&self, at: u32, len: u32) -> Span
         requires some { 0 < len }
         requires within { at + len ≤ (site_in self.now).layout.size }
@@ -145,7 +145,7 @@ impl<'a> Subject<'a> {
         self.geometry.pages_of(sector)
     }
 
-    /// How many sectors or pages there are to work on. The chip counts as one.
+    /// How many sectors or pages a work has. The whole chip counts as one.
     pub fn count(&self, work: Work) -> u32
         ensures count { result ≡ count_of (site_in self.now).layout work }
         ensures limit { result ≤ 1048576 }
@@ -157,7 +157,7 @@ impl<'a> Subject<'a> {
         }
     }
 
-    /// Whether the algorithm has the function.
+    /// Whether the algorithm has the function that a work needs.
     pub fn has(&self, work: Work) -> bool
         ensures { IsTrue result ↔ HasFunction (algorithm_in self.now).entries work }
     {

@@ -1,4 +1,4 @@
-//! What calls took.
+//! How many steps calls took.
 ghost use Rattle.std.specs.Prelude.{◌≡◌};
 
 use algo_calls::Call;
@@ -25,7 +25,7 @@ pub struct Tally {
 impl Count {
     ghost use Rattle.duty_trials.specs.Tallies.{joined};
 
-    /// These calls and others of the function.
+    /// These calls and other calls of the same function together.
     pub fn with(self, other: Count) -> Count
         ensures { result ≡ joined self other }
     {
@@ -60,7 +60,7 @@ impl Tally {
         }
     }
 
-    /// How many calls there are. It stands still at 2^64 - 1.
+    /// How many calls a tally has. The number stops at 2^64 - 1.
     pub fn calls(&self) -> u64
         ensures { result ≡ min (calls_in self.now) (2 ^ 64 - 1) }
     {
@@ -73,7 +73,7 @@ impl Tally {
             .saturating_add(self.verify.calls)
     }
 
-    /// These calls and others.
+    /// These calls and others together.
     pub fn with(self, other: Tally) -> Tally
         ensures { result ≡ both self other }
     {

@@ -1,11 +1,11 @@
-//! A bench on which it is watched where operations lie.
+//! A bench that watches where operations are opened.
 ghost use Rattle.std.specs.Prelude.{◌≡◌, ◌≤◌, ◌+◌, ◌↔◌, IsTrue};
 ghost use Rattle.bench_model.specs.State.{cells_half};
 ghost use Rattle.duty_trials.specs.Watched.{IsSeen};
 
 use bench_model::{Bench, DeviceFault, MemoryBench, Pick, StoreFault};
 
-/// A bench that keeps the last operation that didn't lie in a range of the cells.
+/// A bench that keeps the last operation that wasn't within a range of the cells.
 #[derive(Drop)]
 pub(crate) struct Watch<B: Bench + Drop> {
     inner: B,
@@ -13,14 +13,14 @@ pub(crate) struct Watch<B: Bench + Drop> {
     to: u32,
     /// The operation that is open.
     pub(crate) running: Option<(u32, u32)>,
-    /// The last one that didn't lie in the range.
+    /// The last operation that wasn't within the range.
     pub(crate) outside: Option<(u32, u32)>,
 
     ghost tracks: { IsTrue B.tells → (B.state inner).operation ≡ running },
     ghost seen: { IsTrue B.tells → IsSeen outside (cells_half (B.state inner)) },
 }
 
-/// Whether an operation lies in the range.
+/// Whether an operation is within the range.
 pub(crate) fn lies_in(from: u32, to: u32, at: u32, len: u32) -> bool
     ensures { IsTrue result ↔ (from ≤ at) × (at + len ≤ to) }
 {
@@ -31,7 +31,7 @@ pub(crate) fn lies_in(from: u32, to: u32, at: u32, len: u32) -> bool
 impl<B: Bench + Drop> Watch<B> {
     ghost use Rattle.std.specs.Prelude.{◌≡◌, None, IsTrue};
 
-    /// Watches a bench on which no operation is open. None lies in the range, which is empty.
+    /// Watches a bench with no open operation. The range is empty, so no operation is within it.
     pub(crate) fn new(inner: B) -> Watch<B>
         requires { IsTrue B.tells → (B.state inner).operation ≡ None }
         ensures { result.inner ≡ inner }
@@ -51,7 +51,7 @@ impl Watch<MemoryBench> {
     ghost use Rattle.std.specs.Prelude.{◌≡◌, None};
     ghost use Rattle.bench_model.specs.Shown.{bench_of};
 
-    /// Forgets what was, and watches another range. No operation is open.
+    /// Forgets what was seen, and watches another range. No operation is open.
     pub(crate) fn renew(&mut self, from: u32, to: u32)
         requires { (bench_of self.old.inner).operation ≡ None }
         ensures cells { (bench_of self.new.inner).cells ≡ (bench_of self.old.inner).cells }

@@ -28,7 +28,7 @@ fn has_member(set: &[bool]) -> bool
 }
 
 impl Stand {
-    /// Erases a sector, and puts what the ideal device leaves.
+    /// Erases a sector, and writes what the ideal device leaves.
     fn try_sector(&mut self, subject: &Subject<'_>, number: u32, ideal: &mut [u8]) -> Tried
         requires setup { setup_in self.old ≡ setup_for subject.now }
         requires cells { (world_in self.old).cells ≡ ideal.old }
@@ -46,7 +46,7 @@ impl Stand {
         self.step(&Call::EraseSector { at }, &[], span.from, span.to, ideal)
     }
 
-    /// Erases all sectors, and puts what the ideal device leaves.
+    /// Erases all sectors, and writes what the ideal device leaves.
     fn try_chip(&mut self, subject: &Subject<'_>, ideal: &mut [u8]) -> Tried
         requires setup { setup_in self.old ≡ setup_for subject.now }
         requires cells { (world_in self.old).cells ≡ ideal.old }
@@ -63,7 +63,7 @@ impl Stand {
         self.step(&Call::EraseChip, &[], span.from, span.to, ideal)
     }
 
-    /// Programs an empty page, and puts what the ideal device leaves.
+    /// Programs an empty page, and writes what the ideal device leaves.
     fn try_page(
         &mut self,
         subject: &Subject<'_>,
@@ -111,7 +111,7 @@ impl Stand {
         self.step(&Call::Verify { at }, bytes, 0, 0, ideal)
     }
 
-    /// Makes the call that works on a sector or page, and puts what the ideal device leaves.
+    /// Makes the call that works on a sector or page, and writes what the ideal device leaves.
     fn try_work(
         &mut self,
         subject: &Subject<'_>,
@@ -141,7 +141,7 @@ impl Stand {
         }
     }
 
-    /// Makes the call that works on a sector or page where the set has it, and puts what the ideal device leaves.
+    /// Makes the call for a sector or page if the set has it, and writes what the ideal device leaves.
     fn try_member(
         &mut self,
         subject: &Subject<'_>,
@@ -171,10 +171,11 @@ impl Stand {
         }
     }
 
-    /// Makes the calls of a list: Init, one for each member of the set in rising order, and UnInit, up to the first that breaks its duty. What
-    /// the ideal device leaves behind the last of them is put to `ideal`, which are the cells before. Pages to be programmed are empty.
+    /// Makes the calls of a list up to the first that breaks its duty: Init, one call for each member of the set in rising order, and
+    /// UnInit. `ideal` is the cells before the list; then it is what the ideal device leaves after the last call. Pages to be programmed
+    /// are empty.
     ///
-    /// Where a set has no member there is no such list, and no call is made.
+    /// A set without members has no such list, and no call is made.
     pub fn try_list(
         &mut self,
         subject: &Subject<'_>,

@@ -35,7 +35,7 @@ forged l code file assembled is ends fits zero = record {
 abbrev answer : AsmFault → Result (List ℕ) ForgeFault
 answer refusal = Err (fault.Asm refusal)
 
--- the assembler's fault is the one that refuses the text, or want of memory
+-- the assembler's fault is the one that refuses the text, or out of memory
 pub refusal_answered : (l : Listing) (answered : AsmFault) → IsRefused l.text answered → AnswersRefusal l (Err (outer answered))
 refusal_answered l asm.OutOfMemory is other memory refused = inr refl
 refusal_answered l (asm.BadWord line) is other memory refused =

@@ -62,7 +62,7 @@ length-name_field text =
     let zeros = zeros_long (128 - length text) in
     length-append (take 128 text) (replicate (128 - length text) 0) ∙ omega (arith, length-take 128 text, zeros)
 
--- what stands behind the name
+-- the bytes after the name
 abbrev pub behind_name : Listing → List ℕ
 behind_name l =
     half_bytes on_chip ++ (words_bytes (l.base ∷ l.size ∷ l.page ∷ 0 ∷ []) ++ (l.empty ∷ 0 ∷ 0 ∷ 0 ∷ words_bytes (l.to_prog ∷ l.to_erase ∷ [])))

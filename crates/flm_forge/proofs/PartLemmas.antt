@@ -96,7 +96,7 @@ end_there before sec at ends =
     let to : ltb 0xFFFF_FFFF (sec.addr + sec.size) ≡ false = not_below 0xFFFF_FFFF (sec.addr + sec.size) (omega arith) in
     rw (from, to, at) refl
 
--- and so does one that may be absent
+-- a section that may be absent ends at its size after the one before it
 end_present : (before : ℕ) (sec : Section) (b : Bool) → (sec.size == 0) ≡ b → sec.addr ≡ before → before + sec.size ≤ 0xFFFF_FFFF
     → end_after before (cond b None (Some sec)) ≡ Ok (before + sec.size)
 end_present before sec true none at ends = ap Ok (omega (arith, eqb-true sec.size 0 none))

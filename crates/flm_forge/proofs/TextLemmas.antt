@@ -11,7 +11,7 @@ use Rattle.flm_forge.specs.Listed.{items_from}
 use Rattle.flm_forge.specs.Texts.{constant_lines, erase_chip_lines, erase_lines, erase_sector_lines, init_lines, lie_lines, lines, program_page_first}
 use Rattle.flm_forge.specs.Texts.{program_page_lines, text_of, un_init_first, un_init_lines, verify_lines}
 
--- the text of some lines and of others behind them
+-- the text of two lists of lines is the text of the first, then the text of the second
 text_then : (a b : List (List ℕ)) (t : List ℕ) → text_of b ≡ t → text_of (a ++ b) ≡ text_of a ++ t
 text_then a b t behind = flat_map-append (λ line. line ++ 10 ∷ []) a b ∙ ap (λ (r : List ℕ). text_of a ++ r) behind
 
@@ -56,7 +56,7 @@ unfolding items_from
 items_more runs i offset d made less =
     append_assoc made _ _ ∙ ap (λ (rs : List SectorRun). made ++ items_from offset rs) (sym (drop_more runs i d less))
 
--- and its bytes
+-- the cells of the runs from one on are the cells of that run and of those after it
 pub cells_more : (runs : List SectorRun) (i : ℕ) (d : SectorRun) → i < length runs
     → cells_of (drop i runs) ≡ (get_or runs i d).count * (get_or runs i d).size + cells_of (drop (i + 1) runs)
 cells_more runs i d less =

@@ -1,4 +1,4 @@
--- Bytes that are added one behind the other.
+-- Bytes that are added one after the other.
 use Rattle.std.proofs.Common.{◌≡◌, ℕ, ◌+◌, ◌-◌, ◌<◌, ◌≤◌, List, [], ◌∷◌, ◌++◌, take, min, get_or, length, sym, ap, ◌∙◌, append_assoc, arith, ⊎_elim}
 use Rattle.std.specs.Prelude.{replicate}
 use Rattle.std.specs.List.{flat_map}
@@ -18,7 +18,7 @@ one_more f xs i d out new start less before added =
     added ∙ ap (λ (r : List ℕ). r ++ f x) before ∙ append_assoc start (flat_map f (take i xs)) (f x)
     ∙ ap (λ (r : List ℕ). start ++ r) (sym g)
 
--- parts that are added one behind the other
+-- parts that are added one after the other
 pub six_parts : (start p1 p2 p3 p4 p5 p6 o1 o2 o3 o4 o5 o6 : List ℕ)
     → o1 ≡ start ++ p1 → o2 ≡ o1 ++ p2 → o3 ≡ o2 ++ p3 → o4 ≡ o3 ++ p4 → o5 ≡ o4 ++ p5 → o6 ≡ o5 ++ p6
     → o6 ≡ start ++ (p1 ++ (p2 ++ (p3 ++ (p4 ++ (p5 ++ (p6))))))

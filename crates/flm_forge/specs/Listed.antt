@@ -10,27 +10,27 @@ use Rattle.flm_forge.specs.declared.kind.Kind.TheVariants.{A2, A4, F1}
 use Rattle.flm_forge.specs.declared.source.Listing.{Listing}
 use Rattle.flm_forge.specs.Texts.{lines, text_of}
 
--- A2 and A4 have no symbol of Verify
+-- the names without a symbol: A2 and A4 hide Verify
 abbrev pub hidden_names : Kind → List Name
 hidden_names A2 = Verify ∷ []
 hidden_names A4 = Verify ∷ []
 hidden_names _ = []
 
--- for a region of this number: the controller erases the chip by the first region alone, so a later one has no symbol of EraseChip
+-- the hidden names for a region by its number: EraseChip erases by the first region alone, so a later region has no symbol of it
 abbrev pub hidden_in : ℕ → Kind → List Name
 hidden_in number kind = if nat_eq number 0 then hidden_names kind else hidden_names kind ++ EraseChip ∷ []
 
--- the name of the device
+-- the name of a kind's device
 abbrev pub device_name : Kind → List ℕ
 device_name F1 = codes "FPEC"
 device_name _ = codes "FC1"
 
--- one item for each run of sectors, from an offset on
+-- the items of a device: one for each run of sectors, from an offset on
 unfoldable pub items_from : ℕ → List SectorRun → List SectorItem
 items_from offset [] = []
 items_from offset (run ∷ runs) = record { size = run.size; offset = offset } ∷ items_from (offset + run.count * run.size) runs
 
--- the listing of a kind for a controller whose registers begin at `base`, a region, and pages of so many bytes
+-- the listing of a kind for a controller with its registers from `base` on, for a region, with pages of `page` bytes
 abbrev pub listing_of : Kind → ℕ → Region → ℕ → Listing
 listing_of kind base region page = record {
   text = text_of (lines kind base);
@@ -47,10 +47,10 @@ listing_of kind base region page = record {
   hidden = hidden_names kind;
 }
 
--- a listing with other names hidden
+-- a listing with these names hidden
 abbrev pub hiding : Listing → List Name → Listing
 hiding l names = record l { hidden = names }
 
--- that of region number `number` of a board
+-- the listing for region number `number` of a board
 abbrev pub listing_in : ℕ → Kind → ℕ → Region → ℕ → Listing
 listing_in number kind base region page = hiding (listing_of kind base region page) (hidden_in number kind)

@@ -1,5 +1,5 @@
--- Where the parts of a file stand. The parts of fixed length come first: the ELF header, the names of symbols, and those of
--- sections. Then follow the symbols, the code, the data, the description, and the section headers.
+-- Where the parts of a file are. The parts of fixed length come first: the ELF header, the names of symbols, and the names of sections. The
+-- symbols, the code, the data, the description and the section headers follow.
 use Rattle.std.specs.Prelude.{ℕ, ◌+◌, ◌%◌, ◌^◌}
 use Rattle.flm_forge.specs.declared.sizes.Sizes.{Sizes}
 
@@ -24,10 +24,10 @@ descriptor_at sizes = init_data_at sizes + sizes.init_data
 abbrev pub headers_at : Sizes → ℕ
 headers_at sizes = descriptor_at sizes + sizes.descriptor
 
--- where the file ends: behind eight section headers of 40 bytes
+-- the offset of the file's end: after eight section headers of 40 bytes
 abbrev pub end_of : Sizes → ℕ
 end_of sizes = headers_at sizes + 320
 
--- the address of the description: behind code, data and zeroed data, of which the first begins at 0
+-- the address of the description: after code, data and zeroed data. The code begins at address 0.
 abbrev pub descriptor_addr : Sizes → ℕ
 descriptor_addr sizes = (sizes.code + sizes.init_data + sizes.zero_len) % 2 ^ 32

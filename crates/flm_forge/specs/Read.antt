@@ -1,4 +1,4 @@
--- What a file that was made says, and why none is made.
+-- What a made file says, and why no file is made.
 use Rattle.std.specs.Prelude.{◌≡◌, ◌≢◌, ◌⊎◌, ◌+◌, ◌<◌, ◌≤◌, ◌^◌, ℕ, List, length, All, Result, Ok, IsErrOf}
 use Rattle.armv6m_asm.specs.Assembly.{IsAssembled, IsRefused}
 use Rattle.armv6m_asm.specs.declared.code.Code.{Code}
@@ -31,7 +31,7 @@ device_of l = record {
   to_erase = l.to_erase;
 }
 
--- the algorithm of a listing: data stands behind the code, and zeroed data behind that
+-- the algorithm of a listing: the code, then the data, then the zeroed data
 abbrev pub algorithm_of : Listing → List ℕ → Entries → Shown
 algorithm_of l code entries = record {
   code = code;
@@ -45,13 +45,13 @@ algorithm_of l code entries = record {
   items = l.items;
 }
 
--- the name is a string that DevName can hold with the zero byte behind it
+-- the name is a string that fits DevName with a zero byte after it
 pub record HasName (l : Listing) : Type 0 where
   pub fits : length l.name ≤ 127
   pub no_zero : All (λ byte. byte ≢ 0) l.name
 
--- what has to hold so that a file is read back as its listing says: the entries that the labels are stand in the code, code
--- and data end below the last address, and the device and its items pass a reader's checks
+-- the conditions under which a file reads back as its listing says: the entries are in the code, code and data end below the last address,
+-- and the device and its items pass a reader's checks
 pub record IsReadable (l : Listing) (code : Code) (entries : Entries) : Type 0 where
   pub name : HasName l
   pub no_end : All (λ item. item ≢ end_pair) l.items
@@ -61,8 +61,7 @@ pub record IsReadable (l : Listing) (code : Code) (entries : Entries) : Type 0 w
   pub few : length l.items ≤ 512
   pub limits : limits_of (device_of l) l.items ≡ Ok tt
 
--- a file was made of a listing: its bytes are those of the text's code and of the listing, and it is the FLM file of the
--- listing's algorithm
+-- a file was made from a listing: it has the bytes of the text's code and of the listing, and is the FLM file of the listing's algorithm
 pub record IsForged (l : Listing) (file : List ℕ) : Type 0 where
   pub code : Code
   pub assembled : IsAssembled l.text code
@@ -70,11 +69,11 @@ pub record IsForged (l : Listing) (file : List ℕ) : Type 0 where
   pub fits : length file < 2 ^ 32
   pub read : (entries : Entries) → IsReadable l code entries → IsFlm file (algorithm_of l code.bytes entries)
 
--- why no file is made: the text is refused so
+-- why no file is made: this fault refuses the text, or out of memory
 abbrev pub IsUnforged : Listing → ForgeFault → Type 0
 IsUnforged l OutOfMemory = Unit {0}
 IsUnforged l (Asm fault) = (fault ≢ asm.OutOfMemory) × IsRefused l.text fault
 
--- and where it is refused, that fault is the answer, or want of memory
+-- if the text is refused, the answer is the fault that refuses it, or out of memory
 abbrev pub AnswersRefusal : Listing → Result (List ℕ) ForgeFault → Type 0
 AnswersRefusal l answer = (fault : AsmFault) → fault ≢ asm.OutOfMemory → IsRefused l.text fault → IsErrOf answer (Asm fault) ⊎ IsErrOf answer OutOfMemory

@@ -1,10 +1,10 @@
--- Faults of the assembler as this crate keeps them.
+-- Faults of the assembler as faults of this crate.
 use Rattle.armv6m_asm.specs.declared.fault.AsmFault.{AsmFault}
 use Rattle.armv6m_asm.specs.declared.fault.AsmFault.TheVariants as asm
 use Rattle.flm_forge.specs.declared.fault.ForgeFault.{ForgeFault}
 use Rattle.flm_forge.specs.declared.fault.ForgeFault.TheVariants as fault
 
--- want of memory is the outer type's own variant
+-- an assembler's fault as a fault of this crate. Out of memory is a variant of the outer type.
 abbrev pub outer : AsmFault → ForgeFault
 outer asm.OutOfMemory = fault.OutOfMemory
 outer (asm.BadWord line) = fault.Asm (asm.BadWord line)

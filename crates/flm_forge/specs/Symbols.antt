@@ -15,7 +15,7 @@ symbol_names =
     0 ∷ (ended (codes "Init") ++ (ended (codes "UnInit") ++ (ended (codes "EraseSector") ++ (ended (codes "ProgramPage")
     ++ (ended (codes "EraseChip") ++ (ended (codes "Verify") ++ (ended (codes "FlashDevice") ++ 0 ∷ 0 ∷ [])))))))
 
--- where a name begins there; 0 is the empty name
+-- the offset of a name in the names of the symbols; 0 is the empty name
 abbrev pub name_at : Name → ℕ
 name_at name.PrgCode = 0
 name_at name.DevDscr = 0
@@ -31,27 +31,27 @@ name_at name.FlashDevice = 54
 unfoldable pub symbol_bytes : SymbolEntry → List ℕ
 symbol_bytes s = words_bytes (s.name ∷ s.value ∷ s.size ∷ []) ++ (s.info ∷ 0 ∷ halves_bytes (s.section ∷ []))
 
--- symbol 0 stands for none
+-- symbol 0, which means no symbol
 abbrev pub no_symbol : SymbolEntry
 no_symbol = record { name = 0; value = 0; size = 0; info = 0; section = 0 }
 
--- FlashDevice: info 0x11 (global, object), in section 4
+-- the symbol of FlashDevice: info 0x11 (global, object), in section 4
 abbrev pub device_symbol : ℕ → ℕ → SymbolEntry
 device_symbol address size = record { name = name_at name.FlashDevice; value = address; size = size; info = 0x11; section = 4 }
 
--- the address of a function of Thumb code has bit 0 set (ELF for the Arm Architecture)
+-- the address of a function in Thumb code, which has bit 0 set (ELF for the Arm Architecture)
 abbrev pub thumb : ℕ → ℕ
 thumb place = place - place % 2 + 1
 
--- an entry: info 0x12 (global, function), in section 1
+-- the symbol of an entry function: info 0x12 (global, function), in section 1
 abbrev pub entry_symbol : Name → ℕ → SymbolEntry
 entry_symbol named place = record { name = name_at named; value = thumb place; size = 0; info = 0x12; section = 1 }
 
--- the symbol of an entry that has one
+-- the symbol of an entry function, if it has a place
 abbrev pub symbol_if : Name → Option ℕ → List SymbolEntry
 symbol_if named None = []
 symbol_if named (Some place) = entry_symbol named place ∷ []
 
--- the symbols of the entries
+-- the symbols of all entry functions
 unfoldable pub entry_symbols : List Label → List Name → List SymbolEntry
 entry_symbols labels hidden = flat_map (λ named. symbol_if named (shown_place labels hidden named)) entry_names

@@ -1,17 +1,17 @@
--- The texts of the algorithms A1 to A7, which program flash by the controller FC1, and of F1, which does so by FPEC: lists of lines,
--- with the address of the controller's registers as a constant. A1 and F1 do as they should. Each other kind differs from A1 in what is
--- said beside it.
+-- The texts of the algorithms A1 to A7, which program flash by the controller FC1, and of F1, which uses FPEC. Each is a list of lines,
+-- with the address of the controller's registers as a constant. A1 and F1 do what an algorithm has to do. The comments say how each other
+-- kind differs from A1.
 use Rattle.std.specs.Prelude.{ℕ, List, [], ◌∷◌, ◌++◌, codes}
 use Rattle.std.specs.List.{flat_map}
 use Rattle.octets.specs.Digit.{hex_text}
 use Rattle.flm_forge.specs.declared.kind.Kind.{Kind}
 use Rattle.flm_forge.specs.declared.kind.Kind.TheVariants.{A2, A3, A4, A5, A6, A7, F1}
 
--- the text of some lines: a line feed ends each
+-- the text of a list of lines: a line feed ends each line
 abbrev pub text_of : List (List ℕ) → List ℕ
 text_of lines = flat_map (λ line. line ++ 10 ∷ []) lines
 
--- Init: opens the registers with both keys
+-- the lines of Init: it opens the registers with both keys
 abbrev pub init_lines : Kind → List (List ℕ)
 init_lines F1 =
     codes "Init: LDR R3, base" ∷ codes "LDR R1, key1" ∷ codes "STR R1, [R3, #4]" ∷ codes "LDR R1, key2"
@@ -20,7 +20,7 @@ init_lines _ =
     codes "Init: LDR R3, base" ∷ codes "LDR R1, key1" ∷ codes "STR R1, [R3, #0]" ∷ codes "LDR R1, key2"
     ∷ codes "STR R1, [R3, #0]" ∷ codes "MOVS R0, #0" ∷ codes "BX LR" ∷ []
 
--- UnInit: locks the registers; the first instruction of A4 leads to what stands in `lie_lines`
+-- the first line of UnInit, which locks the registers; A4 branches to `lie_lines` instead
 abbrev pub un_init_first : Kind → List ℕ
 un_init_first A4 = codes "UnInit: B lie"
 un_init_first _ = codes "UnInit: LDR R3, base"
@@ -29,14 +29,14 @@ abbrev pub un_init_lines : Kind → List (List ℕ)
 un_init_lines F1 = codes "MOVS R0, #0x80" ∷ codes "STR R0, [R3, #16]" ∷ codes "MOVS R0, #0" ∷ codes "BX LR" ∷ []
 un_init_lines _ = codes "MOVS R0, #0" ∷ codes "STR R0, [R3, #0]" ∷ codes "BX LR" ∷ []
 
--- EraseChip: operation 3, or MER; A2 only answers 0
+-- the lines of EraseChip: operation 3, or MER; A2 only answers 0
 abbrev pub erase_chip_lines : Kind → List (List ℕ)
 erase_chip_lines A2 = codes "EraseChip: MOVS R0, #0" ∷ codes "BX LR" ∷ []
 erase_chip_lines F1 = codes "EraseChip: MOVS R2, #4" ∷ codes "B erase" ∷ []
 erase_chip_lines _ = codes "EraseChip: MOVS R2, #3" ∷ codes "B erase" ∷ []
 
--- EraseSector: operation 2, or PER; A2 only answers 0, A3 never ends, A5 erases at an address 256 off, A6 only answers 1, and A7
--- leaves the code
+-- the lines of EraseSector: operation 2, or PER. A2 only answers 0, A3 never ends, A5 erases at an address 256 off, A6 only answers 1, and
+-- A7 leaves the code.
 abbrev pub erase_sector_lines : Kind → List (List ℕ)
 erase_sector_lines A2 = codes "EraseSector: MOVS R0, #0" ∷ codes "erase: BX LR" ∷ []
 erase_sector_lines A3 = codes "EraseSector: B EraseSector" ∷ codes "erase: LDR R3, base" ∷ []
@@ -47,7 +47,7 @@ erase_sector_lines A6 = codes "EraseSector: MOVS R0, #1" ∷ codes "erase: BX LR
 erase_sector_lines A7 = codes "EraseSector: MOVS R2, #0" ∷ codes "erase: BX R2" ∷ []
 erase_sector_lines _ = codes "EraseSector: MOVS R2, #2" ∷ codes "erase: LDR R3, base" ∷ []
 
--- both: starts the operation, waits for its end, takes the error bits, clears them, and answers 1 where one was set
+-- the lines of both erase functions: they start the operation, wait for its end, clear the status bits, and answer 1 after an error
 abbrev pub erase_lines : Kind → List (List ℕ)
 erase_lines F1 =
     codes "STR R2, [R3, #16]" ∷ codes "STR R0, [R3, #20]" ∷ codes "MOVS R1, #0x40" ∷ codes "ORRS R1, R2"
@@ -60,7 +60,7 @@ erase_lines _ =
     ∷ codes "MOVS R2, #0x1E" ∷ codes "STR R2, [R3, #4]" ∷ codes "CMP R0, #0" ∷ codes "BEQ out" ∷ codes "MOVS R0, #1"
     ∷ codes "out: BX LR" ∷ []
 
--- ProgramPage: two bytes at a time; A2 only answers 0
+-- the first lines of ProgramPage, which stores two bytes at a time; A2 only answers 0
 abbrev pub program_page_first : Kind → List (List ℕ)
 program_page_first A2 = codes "ProgramPage: MOVS R0, #0" ∷ codes "BX LR" ∷ []
 program_page_first _ = codes "ProgramPage: PUSH {R4, R5, LR}" ∷ codes "LDR R3, base" ∷ []
@@ -80,26 +80,26 @@ program_page_lines _ =
     ∷ codes "SUBS R1, #2" ∷ codes "B pnext" ∷ codes "pdone: MOVS R0, #0" ∷ codes "B pout" ∷ codes "pfail: MOVS R0, #1"
     ∷ codes "pout: MOVS R5, #0x1E" ∷ codes "STR R5, [R3, #4]" ∷ codes "POP {R4, R5, PC}" ∷ []
 
--- Verify: compares byte by byte, and answers the address of the first that differs, or the end
+-- the lines of Verify: it compares byte by byte, and answers the address of the first byte that differs, or the end
 abbrev pub verify_lines : List (List ℕ)
 verify_lines =
     codes "Verify: PUSH {R4, LR}" ∷ codes "vnext: CMP R1, #0" ∷ codes "BEQ vout" ∷ codes "LDRB R3, [R0, #0]"
     ∷ codes "LDRB R4, [R2, #0]" ∷ codes "CMP R3, R4" ∷ codes "BNE vout" ∷ codes "ADDS R0, #1" ∷ codes "ADDS R2, #1"
     ∷ codes "SUBS R1, #1" ∷ codes "B vnext" ∷ codes "vout: POP {R4, PC}" ∷ []
 
--- A4's UnInit erases the chip where it is called behind programming, and answers 0
+-- the lines of A4's UnInit: it erases the chip when it is called after programming, and answers 0
 abbrev pub lie_lines : Kind → List (List ℕ)
 lie_lines A4 =
     codes "lie: LDR R3, base" ∷ codes "CMP R0, #2" ∷ codes "BNE lied" ∷ codes "MOVS R0, #3" ∷ codes "STR R0, [R3, #8]"
     ∷ codes "MOVS R0, #1" ∷ codes "STR R0, [R3, #16]" ∷ codes "lied: MOVS R0, #0" ∷ codes "BX LR" ∷ []
 lie_lines _ = []
 
--- the address of the registers, and the keys
+-- the lines of the constants: the address of the registers, and the keys
 abbrev pub constant_lines : ℕ → List (List ℕ)
 constant_lines base =
     codes ".align" ∷ (codes "base: .word 0x" ++ hex_text 8 base) ∷ codes "key1: .word 0x45670123" ∷ codes "key2: .word 0xCDEF89AB" ∷ []
 
--- the lines of a kind, for a controller whose registers begin at an address
+-- all lines of a kind, for a controller with its registers from `base` on
 abbrev pub lines : Kind → ℕ → List (List ℕ)
 lines kind base =
     init_lines kind ++ (un_init_first kind ∷ (un_init_lines kind ++ (erase_chip_lines kind ++ (erase_sector_lines kind ++ (erase_lines kind

@@ -18,16 +18,16 @@ const TO_PROG: u32 = 100;
 /// The most time that erasing a sector takes, in milliseconds.
 const TO_ERASE: u32 = 500;
 
-/// The listing of an algorithm for the first region of a board, with pages of `page` bytes. The text is for a region of
-/// unit 2 whose sectors and pages have an even number of bytes.
+/// The listing of an algorithm for the first region of a board, with pages of `page` bytes. The text is for a region of unit 2 with an even
+/// number of bytes in each sector and page.
 pub fn listing(alloc: Global, kind: Kind, board: &Board, page: u32) -> Result<Listing, OutOfMemory>
     ensures { IfOk result (λ l. IsSomeAnd (slice_get board.now.regions 0) (λ region. l ≡ listing_of kind board.now.controller_base region page)) }
 {
     listing_at(alloc, kind, board, 0, page)
 }
 
-/// The listing of an algorithm for a region of a board, with pages of `page` bytes. The regions count from 0. The listing for a
-/// later region than the first hides EraseChip, by which the controller erases the first one.
+/// The listing of an algorithm for a region of a board, with pages of `page` bytes. The regions count from 0. The listing for any region
+/// but the first hides EraseChip: the controller erases the first one by it.
 #[tactic(auto, using(crate::proofs::RegionLemmas::sectors_small))]
 pub fn listing_at(
     alloc: Global,

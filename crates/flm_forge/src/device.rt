@@ -14,7 +14,7 @@ const VERSION: u16 = 0x0101;
 /// A device in the chip (ONCHIP).
 const ON_CHIP: u16 = 1;
 
-/// The bytes of DevName.
+/// How many bytes DevName has.
 const NAME_LEN: usize = 128;
 
 /// Adds zero bytes.
@@ -27,7 +27,7 @@ fn put_zeros(out: &mut Vec<u8>, count: usize) -> Result<(), OutOfMemory>
     Ok(())
 }
 
-/// Adds DevName: zeros stand behind the name.
+/// Adds DevName: the name, then zeros.
 fn put_name(out: &mut Vec<u8>, name: &[u8]) -> Result<(), OutOfMemory>
     ensures { OnOk result (out.new.items ≡ out.old.items ++ name_field name.now) }
 {

@@ -1,17 +1,17 @@
-//! Why no file is made of a listing.
+//! Why no file is made from a listing.
 
 use armv6m_asm::AsmFault;
 use faults::OutOfMemory;
 use std::alloc::{AllocError, AllocFailed};
 use thiserror::Error;
 
-/// Why no file is made of a listing.
+/// Why no file is made from a listing.
 #[derive(Debug, Drop, Error)]
 pub enum ForgeFault {
-    /// There was no memory for the call, or the file would have 4,294,967,296 bytes or more.
+    /// Memory ran out, or the file would have 4,294,967,296 bytes or more.
     #[error("OutOfMemory")]
     OutOfMemory,
-    /// The text isn't assembled.
+    /// The assembler refuses the text.
     #[error("Asm {0}")]
     Asm(AsmFault),
 }
@@ -49,7 +49,7 @@ impl From<OutOfMemory> for ForgeFault {
     }
 }
 
-/// Want of memory is this type's own variant, and never stands within.
+/// Out of memory is always this type's own variant, never the assembler's within `Asm`.
 impl From<AsmFault> for ForgeFault {
     ghost use Rattle.std.specs.Prelude.{◌≡◌};
     ghost use Rattle.flm_forge.specs.Results.{outer};

@@ -20,7 +20,7 @@ use faults::OutOfMemory;
 use octets::Bytes;
 use std::alloc::Global;
 
-/// Makes an FLM file of a listing.
+/// Makes an FLM file from a listing.
 pub fn forge(alloc: Global, listing: &Listing) -> Result<Bytes, ForgeFault>
     ensures ok { IfOk result (IsForged listing.now) }
     ensures err { IfErr result (IsUnforged listing.now) }
@@ -32,7 +32,7 @@ pub fn forge(alloc: Global, listing: &Listing) -> Result<Bytes, ForgeFault>
     Ok(file(alloc, listing, &code, symbols.as_slice(), &sizes)?)
 }
 
-/// How many bytes the parts of a file have, where the file has fewer than 4,294,967,296.
+/// How many bytes each part of a file has, if the file has fewer than 4,294,967,296.
 fn sizes(listing: &Listing, code: &Code, symbols: usize) -> Result<Sizes, OutOfMemory>
     requires few { symbols < 7 }
     requires symbols_are { symbols ≡ length (entry_symbols code.now.labels listing.now.hidden) }
@@ -61,7 +61,7 @@ fn sizes(listing: &Listing, code: &Code, symbols: usize) -> Result<Sizes, OutOfM
     })
 }
 
-/// A length that isn't above a limit.
+/// A length, if it isn't above a limit.
 fn len_in(len: usize, limit: u32) -> Result<u32, OutOfMemory>
     ensures len { IfOk result (λ n. n ≡ len) }
     ensures in_limit { IfOk result (λ n. n ≤ limit) }
@@ -73,7 +73,7 @@ fn len_in(len: usize, limit: u32) -> Result<u32, OutOfMemory>
     Ok(len as u32)
 }
 
-/// The file of a listing, of its code, the symbols of its entries, and the sizes of the parts.
+/// The file of a listing, from its code, the symbols of its entries and the sizes of the parts.
 #[tactic(auto, unfolding(crate::specs::File::file_of))]
 fn file(
     alloc: Global,

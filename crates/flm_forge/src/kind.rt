@@ -10,25 +10,25 @@ use octets::hex_digits;
 /// An algorithm that programs flash, for a board with unit 2: A1 to A7 by the controller FC1, and F1 by FPEC.
 #[derive(Clone, Copy, Debug)]
 pub enum Kind {
-    /// It does as it should.
+    /// The algorithm does what it has to do.
     A1,
-    /// Its EraseChip, EraseSector and ProgramPage answer 0 and do nothing.
+    /// EraseChip, EraseSector and ProgramPage answer 0 and do nothing.
     A2,
-    /// Its EraseSector never ends.
+    /// EraseSector never ends.
     A3,
-    /// Its UnInit erases the chip after programming.
+    /// UnInit erases the chip after programming.
     A4,
-    /// Its EraseSector erases at another address.
+    /// EraseSector erases at another address.
     A5,
-    /// Its EraseSector answers 1 and does nothing.
+    /// EraseSector answers 1 and does nothing.
     A6,
-    /// Its EraseSector leaves the code.
+    /// EraseSector leaves the code.
     A7,
-    /// It does as it should, by FPEC.
+    /// The algorithm does what it has to do, by FPEC.
     F1,
 }
 
-/// Init opens the registers with both keys.
+/// The lines of Init: they open the registers with both keys.
 const INIT: &[u8] = b"\
     Init: LDR R3, base\n\
     LDR R1, key1\n\
@@ -38,13 +38,13 @@ const INIT: &[u8] = b"\
     MOVS R0, #0\n\
     BX LR\n";
 
-/// UnInit behind its first line locks the registers.
+/// The lines of UnInit after its first: they lock the registers.
 const UN_INIT: &[u8] = b"\
     MOVS R0, #0\n\
     STR R0, [R3, #0]\n\
     BX LR\n";
 
-/// What both erasing functions do: they start the operation, wait, take the error bits and clear them.
+/// The lines of both erase functions: they start the operation, wait, read the error bits and clear them.
 const ERASE: &[u8] = b"\
     STR R2, [R3, #8]\n\
     STR R0, [R3, #12]\n\
@@ -62,7 +62,7 @@ const ERASE: &[u8] = b"\
     MOVS R0, #1\n\
     out: BX LR\n";
 
-/// ProgramPage behind its first two instructions stores two bytes at a time.
+/// The lines of ProgramPage after its first two: they store two bytes at a time.
 const PROGRAM_PAGE: &[u8] = b"\
     MOVS R4, #1\n\
     STR R4, [R3, #8]\n\
@@ -87,7 +87,7 @@ const PROGRAM_PAGE: &[u8] = b"\
     STR R5, [R3, #4]\n\
     POP {R4, R5, PC}\n";
 
-/// Verify compares byte by byte.
+/// The lines of Verify: they compare byte by byte.
 const VERIFY: &[u8] = b"\
     Verify: PUSH {R4, LR}\n\
     vnext: CMP R1, #0\n\
@@ -102,7 +102,7 @@ const VERIFY: &[u8] = b"\
     B vnext\n\
     vout: POP {R4, PC}\n";
 
-/// What UnInit of A4 does: it erases the chip where it is called behind programming.
+/// The lines of UnInit of A4: it erases the chip when it is called after programming.
 const LIE: &[u8] = b"\
     lie: LDR R3, base\n\
     CMP R0, #2\n\
@@ -114,7 +114,7 @@ const LIE: &[u8] = b"\
     lied: MOVS R0, #0\n\
     BX LR\n";
 
-/// Init of F1.
+/// The lines of Init of F1.
 const F1_INIT: &[u8] = b"\
     Init: LDR R3, base\n\
     LDR R1, key1\n\
@@ -124,14 +124,14 @@ const F1_INIT: &[u8] = b"\
     MOVS R0, #0\n\
     BX LR\n";
 
-/// UnInit of F1 behind its first line.
+/// The lines of UnInit of F1 after its first.
 const F1_UN_INIT: &[u8] = b"\
     MOVS R0, #0x80\n\
     STR R0, [R3, #16]\n\
     MOVS R0, #0\n\
     BX LR\n";
 
-/// What both erasing functions of F1 do.
+/// The lines of both erase functions of F1.
 const F1_ERASE: &[u8] = b"\
     STR R2, [R3, #16]\n\
     STR R0, [R3, #20]\n\
@@ -152,7 +152,7 @@ const F1_ERASE: &[u8] = b"\
     MOVS R0, #1\n\
     out: BX LR\n";
 
-/// ProgramPage of F1 behind its first two instructions.
+/// The lines of ProgramPage of F1 after its first two.
 const F1_PROGRAM_PAGE: &[u8] = b"\
     MOVS R4, #1\n\
     STR R4, [R3, #16]\n\
@@ -179,7 +179,7 @@ const F1_PROGRAM_PAGE: &[u8] = b"\
     STR R5, [R3, #16]\n\
     POP {R4, R5, PC}\n";
 
-/// Init.
+/// The lines of Init.
 fn init(kind: Kind) -> &'static [u8]
     ensures { result.now ≡ text_of (init_lines kind) }
 {
@@ -199,7 +199,7 @@ fn un_init_first(kind: Kind) -> &'static [u8]
     }
 }
 
-/// UnInit behind its first line.
+/// The lines of UnInit after its first.
 fn un_init(kind: Kind) -> &'static [u8]
     ensures { result.now ≡ text_of (un_init_lines kind) }
 {
@@ -209,7 +209,7 @@ fn un_init(kind: Kind) -> &'static [u8]
     }
 }
 
-/// EraseChip.
+/// The lines of EraseChip.
 fn erase_chip(kind: Kind) -> &'static [u8]
     ensures { result.now ≡ text_of (erase_chip_lines kind) }
 {
@@ -220,7 +220,7 @@ fn erase_chip(kind: Kind) -> &'static [u8]
     }
 }
 
-/// EraseSector.
+/// The lines of EraseSector.
 fn erase_sector(kind: Kind) -> &'static [u8]
     ensures { result.now ≡ text_of (erase_sector_lines kind) }
 {
@@ -235,7 +235,7 @@ fn erase_sector(kind: Kind) -> &'static [u8]
     }
 }
 
-/// What both erasing functions do.
+/// The lines of both erase functions.
 fn erase(kind: Kind) -> &'static [u8]
     ensures { result.now ≡ text_of (erase_lines kind) }
 {
@@ -245,7 +245,7 @@ fn erase(kind: Kind) -> &'static [u8]
     }
 }
 
-/// The beginning of ProgramPage.
+/// The first lines of ProgramPage.
 fn program_page_first(kind: Kind) -> &'static [u8]
     ensures { result.now ≡ text_of (program_page_first kind) }
 {
@@ -255,7 +255,7 @@ fn program_page_first(kind: Kind) -> &'static [u8]
     }
 }
 
-/// ProgramPage behind its first two instructions.
+/// The lines of ProgramPage after its first two.
 fn program_page(kind: Kind) -> &'static [u8]
     ensures { result.now ≡ text_of (program_page_lines kind) }
 {
@@ -265,7 +265,7 @@ fn program_page(kind: Kind) -> &'static [u8]
     }
 }
 
-/// What A4 does in UnInit.
+/// The lines of what A4 does in UnInit, or none.
 fn lie(kind: Kind) -> &'static [u8]
     ensures { result.now ≡ text_of (lie_lines kind) }
 {
@@ -275,7 +275,7 @@ fn lie(kind: Kind) -> &'static [u8]
     }
 }
 
-/// Adds the constants.
+/// Adds the lines of the constants.
 fn put_constants(out: &mut Vec<u8>, base: u32) -> Result<(), OutOfMemory>
     ensures { OnOk result (out.new.items ≡ out.old.items ++ text_of (constant_lines base)) }
 {
@@ -284,7 +284,7 @@ fn put_constants(out: &mut Vec<u8>, base: u32) -> Result<(), OutOfMemory>
     put(out, b"\nkey1: .word 0x45670123\nkey2: .word 0xCDEF89AB\n")
 }
 
-/// Adds the text of a kind, for a controller whose registers begin at an address.
+/// Adds the text of a kind, for a controller with its registers from `base` on.
 pub fn put_text(out: &mut Vec<u8>, kind: Kind, base: u32) -> Result<(), OutOfMemory>
     ensures { OnOk result (out.new.items ≡ out.old.items ++ text_of (lines kind base)) }
 {

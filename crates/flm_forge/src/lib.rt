@@ -1,5 +1,5 @@
-//! Flash algorithms from text: the listings A1 to A7 for a board, and FLM files (Open-CMSIS-Pack, flash programming
-//! algorithms; System V ABI, chapter 4) that are made of listings.
+//! Flash algorithms from text: the listings A1 to A7 for a board, and FLM files made from listings (Open-CMSIS-Pack, flash programming
+//! algorithms; System V ABI, chapter 4).
 #![tactic(auto)]
 
 mod algorithm;

@@ -10,10 +10,10 @@ use crate::symbol::SYMBOL_NAMES;
 use crate::write::{put, put_halves, put_words};
 use faults::OutOfMemory;
 
-/// The first 16 bytes of an ELF file of 32 bits, little-endian.
+/// The first 16 bytes of a 32-bit little-endian ELF file.
 const IDENT: [u8; 16] = *b"\x7FELF\x01\x01\x01\0\0\0\0\0\0\0\0\0";
 
-/// The names of the sections, each behind a zero byte.
+/// The names of the sections, each after a zero byte.
 pub const SECTION_NAMES: [u8; 52] =
     *b"\0PrgCode\0PrgData\0DevDscr\0.symtab\0.strtab\0.shstrtab\0\0";
 
@@ -32,7 +32,7 @@ pub struct SectionHeader {
     pub entry_size: u32,
 }
 
-/// The header of section 0, which stands for none.
+/// The header of section 0, which means no section.
 const NO_SECTION: SectionHeader = SectionHeader {
     name: 0,
     kind: 0,
@@ -66,7 +66,7 @@ const SECTION_NAMES_HEADER: SectionHeader = SectionHeader {
     ..NO_SECTION
 };
 
-/// Adds the ELF header of a file whose section headers begin at a place.
+/// Adds the ELF header of a file with its section headers from this offset on.
 #[tactic(auto, unfolding(crate::specs::Sections::elf_header))]
 pub fn put_elf_header(out: &mut Vec<u8>, headers_at: u32) -> Result<(), OutOfMemory>
     ensures { OnOk result (out.new.items ≡ out.old.items ++ elf_header headers_at) }

@@ -1,26 +1,26 @@
-//! Where the parts of a file stand.
+//! Where the parts of a file are.
 ghost use Rattle.std.specs.Prelude.{◌≡◌, ◌<◌, ◌^◌};
 ghost use Rattle.flm_forge.specs.Places.{code_at, init_data_at, descriptor_at, headers_at, descriptor_addr, end_of};
 
 /// Where the names of symbols begin, in bytes from the file's start.
 pub const SYMBOL_NAMES_AT: u32 = 52;
 
-/// Where the names of sections begin.
+/// Where the names of sections begin, in bytes from the file's start.
 pub const SECTION_NAMES_AT: u32 = 120;
 
-/// Where the symbols begin.
+/// Where the symbols begin, in bytes from the file's start.
 pub const SYMBOLS_AT: u32 = 172;
 
-/// The bytes of the section headers.
+/// How many bytes the section headers have.
 pub const HEADERS_LEN: u32 = 320;
 
-/// How many bytes the parts of a file have.
+/// How many bytes each part of a file has.
 #[derive(Clone, Copy)]
 pub struct Sizes {
     pub symbols: u32,
     pub code: u32,
     pub init_data: u32,
-    /// The zeroed data, of which no byte is in the file.
+    /// How many bytes of zeroed data there are. The file has none of them.
     pub zero_len: u32,
     pub descriptor: u32,
 }

@@ -1,4 +1,4 @@
-//! Listings: what FLM files are made of.
+//! Listings, from which FLM files are made.
 
 use flm_descriptor::{Items, Name};
 use octets::Bytes;
@@ -7,25 +7,25 @@ use std::marker::Model;
 /// A flash algorithm as text and numbers. Sizes are in bytes, times in milliseconds.
 #[derive(Drop)]
 pub struct Listing {
-    /// The assembler's text. A label with an entry's name is that entry.
+    /// The assembler's text. A label with an entry's name is the entry.
     pub text: Bytes,
-    /// The data, which stands behind the code at once: `.align` as the text's last line puts it at a multiple of 4.
+    /// The data, directly after the code. If the text ends with `.align`, the data begins at a multiple of 4.
     pub init_data: Bytes,
-    /// The bytes of zeroed data, behind the data at once.
+    /// How many bytes of zeroed data there are, directly after the data.
     pub zero_len: u32,
     /// The device's name: at most 127 bytes, none of them zero.
     pub name: Bytes,
     /// The address of the device's first byte.
     pub base: u32,
-    /// Bytes of the device.
+    /// How many bytes the device has.
     pub size: u32,
-    /// Bytes of a page.
+    /// How many bytes a page has.
     pub page: u32,
     /// The value of erased memory.
     pub empty: u8,
-    /// The most time that programming a page takes.
+    /// The most milliseconds that programming a page takes.
     pub to_prog: u32,
-    /// The most time that erasing a sector takes.
+    /// The most milliseconds that erasing a sector takes.
     pub to_erase: u32,
     /// The sector items.
     pub items: Items,
@@ -52,21 +52,21 @@ impl Names {
     ghost use Rattle.std.specs.Prelude.{◌≡◌};
     ghost use Rattle.flm_forge.specs.Entries.{is_hidden};
 
-    /// The names of a vector, with no copy.
+    /// Takes a vector of names, without a copy.
     pub fn from_vec(names: Vec<Name>) -> Names
         ensures { result ≡ names.items }
     {
         Names { names }
     }
 
-    /// The vector of the names, with no copy.
+    /// Turns the names into a vector, without a copy.
     pub fn into_vec(self) -> Vec<Name>
         ensures { result.items ≡ self }
     {
         self.names
     }
 
-    /// The names, lent.
+    /// The names as a slice.
     pub fn as_slice(&self) -> &[Name]
         ensures { result.now ≡ self.now }
     {

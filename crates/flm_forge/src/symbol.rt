@@ -11,7 +11,7 @@ use faults::OutOfMemory;
 use flm_descriptor::Name;
 use std::alloc::Global;
 
-/// The names of the symbols, each behind a zero byte.
+/// The names of the symbols, each after a zero byte.
 pub const SYMBOL_NAMES: [u8; 68] =
     *b"\0Init\0UnInit\0EraseSector\0ProgramPage\0EraseChip\0Verify\0FlashDevice\0\0\0";
 
@@ -35,7 +35,7 @@ pub struct SymbolEntry {
     pub section: u16,
 }
 
-/// Symbol 0, which stands for none.
+/// Symbol 0, which means no symbol.
 pub const NO_SYMBOL: SymbolEntry = SymbolEntry {
     name: 0,
     value: 0,
@@ -44,7 +44,7 @@ pub const NO_SYMBOL: SymbolEntry = SymbolEntry {
     section: 0,
 };
 
-/// Where a name begins among the names of the symbols.
+/// The offset of a name in the names of the symbols.
 fn name_at(name: Name) -> u32
     ensures { result ≡ name_at name }
 {
@@ -60,7 +60,7 @@ fn name_at(name: Name) -> u32
     }
 }
 
-/// The symbol of the description, which has this address and this size.
+/// The symbol of the description, which has this address and size.
 pub fn device_symbol(address: u32, size: u32) -> SymbolEntry
     ensures { result ≡ device_symbol address size }
 {
@@ -73,7 +73,7 @@ pub fn device_symbol(address: u32, size: u32) -> SymbolEntry
     }
 }
 
-/// The symbol of an entry at a place. Bit 0 of its value is set, as of each function of Thumb code.
+/// The symbol of an entry at a place. Bit 0 of its value is set, as for each function in Thumb code.
 fn entry_symbol(name: Name, place: u32) -> SymbolEntry
     ensures { result ≡ entry_symbol name place }
 {
@@ -86,7 +86,7 @@ fn entry_symbol(name: Name, place: u32) -> SymbolEntry
     }
 }
 
-/// The place of an entry that gets a symbol.
+/// The place of an entry, if it gets a symbol.
 #[tactic(auto, unfolding(crate::specs::Entries::shown_place))]
 fn shown_place(labels: &Labels, hidden: &Names, name: Name) -> Option<u32>
     ensures { result ≡ shown_place labels.now hidden.now name }
@@ -97,7 +97,7 @@ fn shown_place(labels: &Labels, hidden: &Names, name: Name) -> Option<u32>
     place_named(labels, name.text())
 }
 
-/// The place of the first label of a name.
+/// The place of the first label with this name.
 fn place_named(labels: &Labels, name: &[u8]) -> Option<u32>
     ensures { result ≡ place_named labels.now name.now }
 {

@@ -1,4 +1,4 @@
-//! Writing bytes and little-endian fields behind others.
+//! Appending bytes and little-endian fields.
 ghost use Rattle.std.specs.Prelude.{◌≡◌, ◌<◌, ◌^◌, ◌++◌, All, OnOk};
 ghost use Rattle.flm_forge.specs.Fields.{half_bytes, halves_bytes, word_bytes, words_bytes};
 

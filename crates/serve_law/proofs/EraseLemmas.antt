@@ -57,7 +57,7 @@ module _ (g : Given) (r : Option (ℕ × ℕ)) (r0 c a place : ℕ) (w : Work) (
   abbrev left : List ℕ → List ℕ
   left cells = written place (work_bytes w) cells
 
-  -- with so many ticks left, before the status is seen to be settled
+  -- how many steps the wait takes with this number of ticks left, until it sees the status settled
   wait_steps : ℕ → ℕ
   wait_steps zero = 0
   wait_steps (suc (suc (suc (suc t)))) = 3 + wait_steps (suc t)
@@ -100,7 +100,7 @@ module _ (g : Given) (r : Option (ℕ × ℕ)) (r0 c a place : ℕ) (w : Work) (
   unfolding computed all_idle
   ends_goes r2 cells = idle_goes r 10 (waiting r2 (settled c a) cells) home refl refl
 
-  -- an operation of so many ticks, after the first
+  -- the point after the first tick of an operation of `e` ticks
   abbrev begun : ℕ → ℕ → List ℕ → Point
   begun r2 e cells = record { core = erase_core g r0 1 r2 false false 0x20000046; world = world_tick (a1_world g ram (running c a w place e) cells) }
 
@@ -151,7 +151,7 @@ module _ (g : Given) (x : Range) (c a : ℕ) (ram cells : List ℕ) (home : IsHo
   abbrev ordered_at : Option SectorCells → Stored AnyRegisters
   ordered_at o = leaves (unlocked 2 at) (does_as Fc1 (begins_or (erases g.erase_ticks o) (regs 2 at) (record (regs 2 at) { range = true })))
 
-  -- so its accesses are answered
+  -- how the accesses of the sixth instruction are answered
   abbrev answer_at : Option SectorCells → World → Access → Answer
   answer_at o w (Load width from) = answer_in w (Load width from)
   answer_at o w (Store width to v) = (stored (ordered_at o).0, record w { state = (ordered_at o).1 })

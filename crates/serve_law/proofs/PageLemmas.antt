@@ -54,7 +54,7 @@ ready a d = resting (record (regs 1 a) { done = d })
 abbrev busy : ℕ → Bool → ℕ → ℕ → ℕ → UnitState
 busy a d value place t = record (ready a d) { operation = Some (record { work = work.Half value; place = place; ticks = t }) }
 
--- with so many ticks left, before the status is seen to be settled
+-- how many steps the poll takes with this number of ticks left, until it sees the status settled
 poll_steps : ℕ → ℕ
 poll_steps zero = 0
 poll_steps (suc (suc (suc (suc t)))) = 3 + poll_steps (suc t)
@@ -131,7 +131,7 @@ module _ (g : Given) (r : Option (ℕ × ℕ)) (a low : ℕ) (ram : List ℕ) (f
     unfolding computed all_idle
     settles r5 n z cells = idle_goes r 10 (polling r5 n z (ready a true) cells) frame.home refl refl
 
-  -- the head of the loop, with so many bytes left
+  -- the head of the loop, with `r1` bytes left
   heads : (r0 r1 r2 r5 : ℕ) (n z c v : Bool) (st : Bool) (cells : List ℕ) → Goes r 1 (at_pc 0x20000064 r0 r1 r2 r5 n z c v (ready a st) cells)
       (at_pc 0x20000066 r0 r1 r2 r5 (nat_le (2 ^ 31) (subtraction r1 0).value) (nat_eq (subtraction r1 0).value 0) (subtraction r1 0).carry
       (subtraction r1 0).overflow (ready a st) cells)
@@ -284,7 +284,7 @@ module _ (g : Given) (r : Option (ℕ × ℕ)) (a low : ℕ) (ram : List ℕ) (f
   begun_bound (suc (suc t)) = omega (arith, poll_bound (suc t))
   begun_bound t = omega arith
 
-  -- the steps for so many bytes
+  -- how many steps the loop takes for `n` bytes
   unit_steps : ℕ → ℕ → ℕ
   unit_steps t (suc (suc n)) = 1 + (1 + (1 + (1 + (begun_steps t + unit_steps t n))))
   unit_steps t x = 7

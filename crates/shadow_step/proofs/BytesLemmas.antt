@@ -133,7 +133,7 @@ part_by p width w j x q q' true e is =
     let parts : (nat_eq w width ≡ true) × (nat_lt (x + j) 0x100000000 ≡ true) = and_parts _ _ e in is (eqb-true _ _ parts.0)
 part_by p width w j x q q' false e is = tt
 
--- a byte is a function of the number, which is this byte of a page where the number is so many bytes of it
+-- a mark of a number gives the mark of each byte of it, where the byte is a function of the number
 pub part_says : (p : Pages) (width j : ℕ) (k : Mark) (v v' : ℕ) (f : ℕ → ℕ) → Says p k v v'
     → ((x : ℕ) → v ≡ value_at p.here width x → f v ≡ slice_index p.here (x + j))
     → ((x : ℕ) → v' ≡ value_at p.there width x → f v' ≡ slice_index p.there (x + j))

@@ -24,7 +24,7 @@ use Rattle.shadow_step.specs.Shadow.{Shadow, Marks}
 abbrev pub marks : {M : Type 0} → CoreMarks → M → Marks M
 marks t m = record { core = t; bus = m }
 
--- goes on with a value, if there is one
+-- a function applied to an optional value, or none if there is no value
 abbrev pub and_then : {A X : Type 0} → Option A → (A → Option X) → Option X
 and_then None f = None
 and_then (Some a) f = f a
@@ -34,7 +34,7 @@ only_if k x = if k then x else None
 
 -- ---- one register
 
--- a load into d of a number by whose mark `f` gives the register's, where the address is known
+-- a load into register d from a known address: `f` makes the mark of the register from the mark of the loaded number
 abbrev pub load_marks : {M : Type 0} → Shadow M → CoreMarks → M → Bool → ℕ → ℕ → ℕ → (Mark → Mark) → Option (Marks M)
 load_marks s t m k width at d f = only_if k (and_then (s.load m width at) (λ x. Some (marks (gone (put t d (f x))) m)))
 
@@ -73,7 +73,7 @@ unfoldable pub load_each_marks : {M : Type 0} → Shadow M → CoreMarks → M �
 load_each_marks s t m at [] = Some t
 load_each_marks s t m at (r ∷ rs) = and_then (s.load m 4 at) (λ x. load_each_marks s (put t r x) m (sum at 4) rs)
 
--- the last access of PUSH and of POP
+-- the marks after the last access of PUSH and of POP
 abbrev pub link_marks : {M : Type 0} → Shadow M → CoreMarks → M → Core → Bool → ℕ → Option (Marks M)
 link_marks s t m core lr at =
     if lr then and_then (s.store m 4 at (reg core LR) (operand t LR))

@@ -1,4 +1,4 @@
-//! Marks of bytes in memory, a mark for each.
+//! Marks of bytes in memory, one for each byte.
 #![tactic(auto, using(std::proofs::lemmas::Bool::Decides::nat_tests))]
 
 ghost use Rattle.std.specs.Prelude.{◌≡◌, ◌≤◌, ◌<◌, ◌^◌, slice_set};
@@ -7,7 +7,7 @@ ghost use Rattle.shadow_step.specs.Bytes.{joined, byte_mark, half_mark, word_mar
 use crate::marks::Mark;
 
 impl Mark {
-    /// The mark of a number made of two numbers of `width` bytes. This one comes first.
+    /// The mark of a number that consists of two numbers of `width` bytes, this one first.
     pub fn joined(self, width: u8, next: Mark) -> Mark
         requires { width ≤ 2 }
         ensures { result ≡ joined width self next }
@@ -30,7 +30,7 @@ impl Mark {
         }
     }
 
-    /// The mark of one byte of a number of `width` bytes that is stored whole.
+    /// The mark of one byte of a number of `width` bytes that is stored.
     pub fn part(self, width: u8, place: u32) -> Mark
         ensures { result ≡ part_of width place self }
     {
@@ -50,7 +50,7 @@ impl Mark {
     }
 }
 
-/// Of a byte.
+/// The mark of a byte.
 #[inline(always)]
 pub fn byte_mark(marks: &[Mark], at: usize) -> Mark
     ensures { result ≡ byte_mark marks.now at }
@@ -61,7 +61,7 @@ pub fn byte_mark(marks: &[Mark], at: usize) -> Mark
     }
 }
 
-/// Of a halfword.
+/// The mark of a halfword.
 pub fn half_mark(marks: &[Mark], at: usize) -> Mark
     requires { at < 2 ^ 34 }
     ensures { result ≡ half_mark marks.now at }
@@ -69,7 +69,7 @@ pub fn half_mark(marks: &[Mark], at: usize) -> Mark
     byte_mark(marks, at).joined(1, byte_mark(marks, at + 1))
 }
 
-/// Of a word.
+/// The mark of a word.
 pub fn word_mark(marks: &[Mark], at: usize) -> Mark
     requires { at < 2 ^ 33 }
     ensures { result ≡ word_mark marks.now at }

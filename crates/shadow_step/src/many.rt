@@ -66,7 +66,7 @@ impl CoreMarks {
         true
     }
 
-    /// The last access of PUSH.
+    /// The marks after the last access of PUSH.
     fn link<S: BusMarks>(&mut self, bus: &mut S, core: &Core, lr: bool, at: u32) -> bool
         ensures { link_marks S.table self.old (S.view bus.old) core.now lr at ≡ (if result then Some (marks self.new (S.view bus.new)) else None) }
     {
@@ -78,7 +78,7 @@ impl CoreMarks {
         true
     }
 
-    /// The last access of POP.
+    /// The marks after the last access of POP.
     fn comes_back<S: BusMarks>(&mut self, bus: &S, pc: bool, at: u32) -> bool
         ensures { return_marks S.table self.old (S.view bus.now) pc at ≡ (if result then Some (marks self.new (S.view bus.now)) else None) }
     {

@@ -11,11 +11,11 @@ use armv6m_decode::registers::{PC, SP};
 /// What other runs have in common with the run at hand, in one of its numbers: a register, or a byte of memory.
 #[derive(Clone, Copy, PartialEq, Eq, Debug)]
 pub enum Mark {
-    /// It is the same in every run.
+    /// The number is the same in every run.
     Known,
-    /// In each run it is a little-endian number of `width` bytes of the run's own page, from place `at` of the page on.
+    /// The number is, in each run, a little-endian number of `width` bytes of that run's page, from place `at` on.
     Page { width: u8, at: u32 },
-    /// It may be any.
+    /// Nothing is known of the number in other runs.
     Any,
 }
 
@@ -31,7 +31,7 @@ pub struct CoreMarks {
 }
 
 impl Mark {
-    /// Whether it is the same in every run.
+    /// Whether the number is the same in every run.
     #[inline(always)]
     pub fn is_known(self) -> bool
         ensures { result ≡ is_known self }
@@ -39,7 +39,7 @@ impl Mark {
         matches!(self, Mark::Known)
     }
 
-    /// Known, or nothing is.
+    /// The mark Known if `known` is true, or Any.
     #[inline(always)]
     pub fn known_if(known: bool) -> Mark
         ensures { result ≡ known_if known }
@@ -47,7 +47,7 @@ impl Mark {
         if known { Mark::Known } else { Mark::Any }
     }
 
-    /// That of a function of the number.
+    /// The mark of a function of the marked number.
     #[inline(always)]
     pub fn plain(self) -> Mark
         ensures { result ≡ plain self }
@@ -71,7 +71,7 @@ impl Mark {
         }
     }
 
-    /// That of the low byte.
+    /// The mark of the low byte of the number.
     pub fn low_byte(self) -> Mark
         ensures { result ≡ low_byte self }
     {
@@ -81,7 +81,7 @@ impl Mark {
         }
     }
 
-    /// That of the low halfword.
+    /// The mark of the low halfword of the number.
     pub fn low_half(self) -> Mark
         ensures { result ≡ low_half self }
     {
@@ -125,7 +125,7 @@ impl CoreMarks {
         self.knows(n) && self.knows(m)
     }
 
-    /// Whether the difference of two registers is known.
+    /// Whether a comparison of two registers has a known result.
     pub fn compares(&self, n: u8, m: u8) -> bool
         ensures { result ≡ comparable self.now n m }
     {
@@ -139,7 +139,7 @@ impl CoreMarks {
         self.n && self.z && self.c && self.v
     }
 
-    /// Marks a register that is written.
+    /// Marks a register after a write.
     #[inline(always)]
     #[tactic(auto, using(std::proofs::lemmas::Bool::Decides::nat_tests), unfolding(crate::specs::Marks::put))]
     pub fn put(&mut self, n: u8, mark: Mark)

@@ -141,7 +141,7 @@ impl CoreMarks {
         }
     }
 
-    /// Whether the flags that a condition asks are known.
+    /// Whether the flags that a condition uses are known.
     pub fn decides(&self, condition: Condition) -> bool
         ensures { result ≡ decides self.now condition }
     {

@@ -49,8 +49,8 @@ impl CoreMarks {
         }
     }
 
-    /// Computes the marks after the instruction at the PC, whose halfwords are given, and answers whether there are any. `second` is read only
-    /// where the instruction is a pair of halfwords.
+    /// Computes the marks after the instruction at the PC, from its halfwords, and answers whether there are any. `second` is read only for
+    /// an instruction of two halfwords.
     #[tactic(auto, using(std::proofs::lemmas::Bool::Decides::nat_tests), unfolding(crate::specs::Steps::step_marks))]
     pub fn step<S: BusMarks>(&mut self, bus: &mut S, core: &Core, half: u16, second: u16) -> bool
         ensures { step_marks S.table self.old (S.view bus.old) core.now half second ≡ (if result then Some (marks self.new (S.view bus.new)) else None) }
