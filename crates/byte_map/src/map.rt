@@ -45,9 +45,9 @@ impl ByteMap {
         }
     }
 
-    /// Adds the bytes from the address `at` on. A byte that the map has already is accepted. A record costs
+    /// Adds the bytes from the address `at` on. A byte that the map already has is accepted. A record costs
     /// time logarithmic in the number of runs, in whatever order records come, and amortised constant time a
-    /// byte. What lies at the last few runs or behind them is found without a walk down the tree.
+    /// byte. Bytes at the last few runs or after them are added without a walk down the tree.
     pub fn lay(&mut self, at: u32, bytes: &[u8]) -> Result<(), LayFault>
         ensures ok { OnOk result (Lays (record { at = at; bytes = bytes.now }) self.old self.new) }
         ensures refused { IfErr result (IsLayFault (record { at = at; bytes = bytes.now }) self.old) }
@@ -115,8 +115,8 @@ impl ByteMap {
         (run.at(), run.bytes())
     }
 
-    /// Lays the map over cells, the first of which has the address `base`: each becomes the map's byte
-    /// at its address, and stays where the map has none.
+    /// Lays the map over cells, where the first cell has the address `base`. Each cell becomes the map's byte
+    /// at its address, and is unchanged where the map has none.
     pub fn overlay_into(&self, base: u32, old: &mut [u8])
         requires { base + length old.old ≤ addresses }
         ensures { old.new ≡ over self.now base old.old }

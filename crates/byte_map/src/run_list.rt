@@ -1,5 +1,5 @@
-//! The runs of a map in order: a balanced tree, and behind it a short tail of the last ones. Runs that are laid in rising
-//! order go into the tail, and from there into the tree a node at a time, so that no walk down the tree is needed.
+//! The runs of a map in order: a balanced tree, and then a short tail with the last runs. Runs that come in rising order go into
+//! the tail. From there they go into the tree a node at a time, so that no walk down the tree is needed.
 ghost use Rattle.std.specs.Prelude.{◌≡◌, ◌+◌, ◌-◌, ◌<◌, ◌≤◌, ◌^◌, [], ◌∷◌, ◌++◌, length, take, drop, OnOk, OnErr};
 ghost use Rattle.std.proofs.Math.ListN.{set};
 ghost use Rattle.byte_map.specs.Image.{addresses, run_at, end_of, AreMaximal};
@@ -154,7 +154,7 @@ impl RunList {
         }
     }
 
-    /// Adds `middle` and then `end` behind a run.
+    /// Appends `middle` and then `end` to a run.
     #[tactic(auto, using(crate::proofs::Sides::resets))]
     pub fn append(&mut self, index: usize, middle: &[u8], end: &[u8]) -> Result<(), AllocError>
         requires within { index < length self.old }

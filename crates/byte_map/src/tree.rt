@@ -14,10 +14,10 @@ use std::mem;
 /// How many runs a node is to have less than. Where no memory is left to split it, it has more.
 pub const LIMIT: usize = 32;
 
-/// What is before the runs of a node, or behind them.
+/// The runs before those of a node, or after them.
 pub type Side = Option<Box<Node>>;
 
-/// Runs, those before them, those behind them, and how many runs and nodes there are. Neither side has more than three
+/// Runs, those before them, those after them, and how many runs and nodes there are. Neither side has more than three
 /// times as many nodes as the other, where the two have more than one.
 #[derive(Drop)]
 pub struct Node {
@@ -219,7 +219,7 @@ fn raise_left(mut top: Box<Node>) -> Box<Node>
     raised
 }
 
-/// Makes the node behind the top one the top one.
+/// Makes the top node's right child the top node.
 #[tactic(auto, using(crate::proofs::Sides::sides))]
 fn raise_right(mut top: Box<Node>) -> Box<Node>
     ensures { result.value.runs ≡ top.value.runs }
@@ -316,7 +316,7 @@ fn put_first(side: Side, leaf: Box<Node>) -> Box<Node>
     balance(top)
 }
 
-/// Puts a node in behind the runs of a side.
+/// Puts a node in after all runs of a side.
 #[tactic(auto, using(crate::proofs::Sides::sides))]
 pub fn put_last(side: Side, leaf: Box<Node>) -> Box<Node>
     requires { length (runs_of side) + length leaf.value.runs < 2 ^ 64 }
@@ -460,7 +460,7 @@ pub fn remove(side: Side, index: usize) -> Side
     refill(top)
 }
 
-/// Adds `middle` and then `end` behind a run of a side.
+/// Appends `middle` and then `end` to a run of a side.
 #[tactic(auto, using(crate::proofs::Sides::resets))]
 pub fn append(side: &mut Side, index: usize, middle: &[u8], end: &[u8]) -> Result<(), AllocError>
     requires within { index < length (runs_of side.old) }

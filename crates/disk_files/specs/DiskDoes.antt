@@ -92,7 +92,7 @@ pub record ReadsBytes (tells : Bool) (old new : DiskState) : Type 0 where
   pub unsynced : IsTrue tells → new.unsynced ≡ old.unsynced
   pub writes : WritesBytes tells old new
 
--- the range is told in which cells may be written from now on; on an error none may
+-- The open range becomes the one in which cells may be written from now on. On an error no range is open.
 pub record OpensRange {E : Type 0} (tells : Bool) (old new : DiskState) (at len : ℕ) (result : Result (Unit {0}) E) : Type 0 where
   pub ok : IsTrue tells → OnOk result (new.operation ≡ Some (at, len))
   pub err : IsTrue tells → OnErr result (new.operation ≡ None)

@@ -10,13 +10,12 @@ ghost use Rattle.disk_files.specs.DiskDoes.{ReadsBytes, OpensRange, ClosesRange,
 
 use std::io;
 
-/// A job file and a cells file. Offsets and lengths are in bytes, of which one is a cell.
-///
-/// Each call may fail, and counts that. What it may leave then is said by its clauses as well. A read or a write that a signal interrupted is
-/// no error: it can be made again. One that answers that it moved none of some bytes is one, as at the end of a file that others have cut. Once a
-/// sync has failed no later one of the same file brings anything to the disk for sure. The job
-/// file's entry in its folder has to be
-/// on the disk before any other call on it than `job_open` and `folder_sync`.
+/// A job file and a cells file. Offsets and lengths are in bytes, and each cell is one byte.
+/// 
+/// A call may fail, and each failure is counted. The clauses also say what a failed call may leave. A read or a write that a signal
+/// interrupted is no error: it can be made again. A call that was to move bytes and moved none is an error, as at the end of a
+/// file that another program has cut. Once a sync of a file has failed, no later sync of it is sure to reach the disk.
+/// The job file's entry in its folder must be on the disk before any call on the file but `job_open` and `folder_sync`.
 pub trait Disk {
     /// Whether it tells its contents.
     ghost tells: { Bool };

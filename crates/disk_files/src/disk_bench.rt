@@ -41,7 +41,7 @@ impl<F: Disk> DiskBench<F> {
     ghost use Rattle.disk_files.specs.DiskState.{over};
     ghost use Rattle.disk_files.specs.Fails.{Fails};
 
-    /// A bench over these files, of which nothing is taken to be on the disk.
+    /// A bench over these files. Nothing is assumed to be on the disk.
     pub fn new(disk: F, cell_count: u32) -> DiskBench<F>
         requires many { IsTrue F.tells → length (F.state disk).cells ≡ cell_count }
         requires idle { IsTrue F.tells → (F.state disk).operation ≡ None }

@@ -28,13 +28,13 @@ pub record OneBreaks (b : board.Shown) (algorithms : List flm.Shown) : Type 0 wh
   pub is : slice_get algorithms region ≡ Some algorithm
   pub refuted : Serves b algorithm region → ⊥
 
--- each keeps its duties, by a theorem; or nothing; or one of them doesn't
+-- what an ending claims: each algorithm keeps its duties, by a theorem; or nothing; or one doesn't keep them
 abbrev pub Claims : board.Shown → List flm.Shown → Ending → Type 0
 Claims b algorithms ending.Proved = AllServe b algorithms
 Claims b algorithms (ending.Tried lists calls) = Unit {0}
 Claims b algorithms (ending.Broken duty) = OneBreaks b algorithms
 
--- and so of the algorithms of files; A1 on a board that it serves is told as proved
+-- An ending claims this of the algorithms in some files. A1 on a board that it serves is reported as proved.
 pub record ClaimsOf (files : FilesGiven) (end : Ending) : Type 0 where
   pub board : board.Shown
   pub algorithms : List flm.Shown

@@ -4,7 +4,7 @@ use Rattle.std.specs.List.{starts_with}
 use Rattle.command_words.specs.Files.{FilesAsked, names_in}
 use Rattle.command_words.specs.Words.{IsDecimal}
 
--- The files, of which the images are the FLM file of a second region, where there is one; the seed; and the rounds.
+-- What words ask for: files, a seed and a number of rounds. The images are the FLM file of a second region, if there is one.
 pub record Asked : Type 0 where
   pub files : FilesAsked
   pub seed : ℕ

@@ -27,7 +27,7 @@ pub fn run(rt: HostRuntime) -> ExitCode {
     }
 }
 
-/// The end with the arguments that were read, of which the first is the program's own name.
+/// Ends the program with the arguments that were read. The first of them is the program's own name.
 fn end(streams: HeldStreams, arguments: Result<Vec<Word>, OutOfMemory>) -> ExitCode
     ensures { IsErr arguments → exit_status result ≡ 1 }
 {
@@ -56,7 +56,7 @@ fn status_of(answered: Result<u8, OutOfMemory>) -> u8
     }
 }
 
-/// The words behind the program's own name and that of the job file.
+/// The words after the program's own name and the name of the job file.
 fn words_of(arguments: &[Word]) -> &[Word]
     ensures { result.now ≡ drop 2 arguments.now }
 {
@@ -95,7 +95,7 @@ fn bench_of(rt: HostRuntime, name: &str) -> Result<DiskBench<ReadDisk>, OutOfMem
     }
 }
 
-/// The bench over a job file for so many cells.
+/// A bench over a job file, with this number of cells.
 fn bench_with(rt: HostRuntime, name: &str, cells: u32) -> Result<DiskBench<ReadDisk>, OutOfMemory> {
     let name = Word::copy(rt.alloc(), name)?;
     Ok(DiskBench::new(ReadDisk::new(rt, name), cells))

@@ -28,11 +28,11 @@ enum Hold {
     Lost,
 }
 
-/// The advisory lock on an open file. It is kept until the file is closed. A file system that has no locks is gone on with.
+/// The advisory lock on an open file. It is kept until the file is closed. On a file system without locks the program runs without one.
 ///
-/// A lock that another program holds is asked for again for up to a second, the first time that it is in the way: a program that only looks at the
-/// file is done by then. Where a shared lock is held an exclusive one is asked for only once. If it is refused the system has taken the shared one
-/// away, and another program may have changed the file.
+/// If another program holds the lock, it is asked for again for up to a second, the first time only: a program that only reads the
+/// file is done by then. While a shared lock is held, an exclusive one is asked for only once. If that is refused, the system has
+/// released the shared one, and another program may have changed the file.
 #[derive(Drop)]
 pub struct FileLock {
     rt: HostRuntime,
@@ -116,7 +116,7 @@ impl FileLock {
         wait_for(self.rt, file, wanted)
     }
 
-    /// Follows what the system answered. One that didn't give the lock took the one that was held. A file system that has no locks is gone on with.
+    /// Follows the system's answer. If the lock is refused, the one held before is lost. On a file system without locks, this goes through.
     fn take(&mut self, answer: Result<(), TryLockError>, wanted: Hold) -> io::Result<()>
         ensures took { OnOk result (self.new.hold ≡ wanted) }
         ensures without { (fault : Error) → answer ≡ Err (TryLockError.Error fault) → IsOk result }

@@ -137,7 +137,7 @@ impl ProgressLine {
         }
     }
 
-    /// The same line, for another to hold.
+    /// A second handle on this line.
     pub fn share(&self) -> ProgressLine {
         match &self.shared {
             Some(shared) => ProgressLine {
@@ -183,7 +183,7 @@ impl ProgressLine {
         }
     }
 
-    /// Counts a list that was tried, which made so many calls.
+    /// Counts one more list that was tried, with the number of its calls.
     pub fn tried(&self, calls: u64) {
         if let Some(shared) = &self.shared {
             shared.lists.set(shared.lists.get().saturating_add(1));

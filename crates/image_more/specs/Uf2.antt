@@ -73,8 +73,8 @@ pub record IsForFlash (block : List ℕ) : Type 0 where
   pub size : payload_size block ≤ 476
   pub flash : is_skipped block ≡ false
 
--- why a block with this number is refused behind blocks with this image: a magic number is another, or else its payload is too
--- large, or else it goes past 2^32, or else it clashes with the image
+-- why a block is refused, where the blocks before it have this image. A magic number is wrong, or else its payload is too large,
+-- or else it goes past 2^32, or else it clashes with the image.
 abbrev pub IsBlockFault : ℕ → List ℕ → List Run → Uf2Fault → Type 0
 IsBlockFault number block image (BadLength len) = ⊥
 IsBlockFault number block image (BadMagic said) = (said ≡ number) × (has_magic block ≡ false)
@@ -92,7 +92,7 @@ pub record IsFirstRefused (bytes : List ℕ) (fault : Uf2Fault) : Type 0 where
   pub before : IsImageBefore bytes place image
   pub refused : IsBlockFault (place + 1) (block_at bytes place) image fault
 
--- why a file is refused: by its length, or else by a block; want of memory says nothing of the file
+-- why a UF2 file is refused: by its length, or else by a block; out of memory says nothing about the file
 abbrev pub IsUf2Fault : List ℕ → Uf2Fault → Type 0
 IsUf2Fault bytes (BadLength len) = (len ≡ length bytes) × (IsWhole bytes → ⊥)
 IsUf2Fault bytes (BadMagic block) = IsFirstRefused bytes (BadMagic block)

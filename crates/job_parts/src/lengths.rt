@@ -14,7 +14,7 @@ use bench_model::{Bench, StoreFault};
 use job_text::{Format, format_of, places_in};
 use octets::le32;
 
-/// The format of a job, and how many bytes its texts have: that of the board, and the FLM files, of which the second may be missing.
+/// The format of a job, and how many bytes its board and its FLM files have. The second FLM file may be missing.
 #[derive(Clone, Copy)]
 pub struct Lengths {
     pub format: Format,

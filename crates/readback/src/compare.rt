@@ -48,7 +48,7 @@ pub fn first_difference<B: Bench>(
     Ok(None)
 }
 
-/// The same for at most a window.
+/// The first difference between the device and at most a window of bytes.
 fn difference_in<B: Bench>(
     bench: &mut B,
     at: u32,

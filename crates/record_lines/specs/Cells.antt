@@ -12,7 +12,7 @@ abbrev pub held : List Cell → ℕ → Option ℕ
 held [] a = None
 held (cell ∷ cells) a = if a == cell.at then Some cell.byte else held cells a
 
--- cells of which no two have unequal bytes at one address
+-- no two of these cells have unequal bytes at one address
 abbrev pub AreConsistent : List Cell → Type 0
 AreConsistent cells = All (λ cell. held cells cell.at ≡ Some cell.byte) cells
 

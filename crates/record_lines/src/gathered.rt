@@ -11,7 +11,7 @@ use std::marker::Model;
 struct Piece {
     /// The address of the first byte.
     at: u32,
-    /// Its place in the store, and how many bytes there are.
+    /// Where its bytes begin in the store, and how many there are.
     start: usize,
     len: usize,
 }
@@ -63,7 +63,7 @@ impl Gathered {
         (piece.at, &self.bytes[piece.start..piece.start + piece.len])
     }
 
-    /// Adds a run behind the others.
+    /// Appends a run.
     pub fn push(&mut self, at: u32, bytes: &[u8]) -> Result<(), AllocError>
         ensures { OnOk result (self.new ≡ self.old ++ record { at = at; bytes = bytes.now } ∷ []) }
     {

@@ -10,7 +10,7 @@ use crate::fault::{LineFault, TextFault};
 use byte_map::ByteMap;
 use std::alloc::Global;
 
-/// An image of so many runs is laid line by line. One of more is laid in the order of its addresses.
+/// An image of at most this many runs is built line by line. One of more is built in the order of its addresses.
 const FEW_RUNS: usize = 64;
 
 /// A format of records. A value is what is known of the lines that were read.

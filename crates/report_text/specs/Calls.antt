@@ -27,11 +27,11 @@ function_of (call.Verify at) = name.Verify
 unfoldable pub answer_text : ℕ → List ℕ
 answer_text r0 = concat (codes "answered " ∷ hex_text 8 r0 ∷ [])
 
--- what happened, and the address of the instruction
+-- what happened at an instruction, with its address
 unfoldable pub place_text : List ℕ → ℕ → List ℕ
 place_text what pc = concat (what ∷ codes " at " ∷ hex_text 8 pc ∷ [])
 
--- the same, of an access to an address
+-- what happened at an instruction that accessed an address, with both addresses
 unfoldable pub access_text : List ℕ → ℕ → ℕ → List ℕ
 access_text what pc at = concat (what ∷ codes " at " ∷ hex_text 8 pc ∷ codes " address " ∷ hex_text 8 at ∷ [])
 

@@ -16,7 +16,7 @@ lines_in text = map ended text ++ 10 ∷ []
 abbrev pub is_star : ℕ → Bool
 is_star byte = byte == 42
 
--- pairs of digits before the first star, and behind it how often their bytes stand there, in decimal digits
+-- pairs of digits, a star, and in decimal digits how many times the bytes of these pairs are repeated
 pub record StandOften (word bytes : List ℕ) : Type 0 where
   pub once : List ℕ
   pub pairs : decode_of (before_first is_star word) ≡ Ok once

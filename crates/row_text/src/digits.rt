@@ -22,7 +22,7 @@ pub fn number(word: &str) -> Result<u32>
 ///
 /// # Errors
 ///
-/// What is no pairs of hexadecimal digits, and want of memory.
+/// If the text isn't pairs of hexadecimal digits, or out of memory.
 pub fn bytes_of(alloc: Global, digits: &str) -> Result<Vec<u8>>
     ensures { IfOk result (λ bytes. decode_of digits.now ≡ Ok bytes.items) }
 {
@@ -33,7 +33,7 @@ pub fn bytes_of(alloc: Global, digits: &str) -> Result<Vec<u8>>
 ///
 /// # Errors
 ///
-/// What is no such word, and want of memory.
+/// If the text isn't such a word, or out of memory.
 pub fn counted_bytes(alloc: Global, word: &str) -> Result<Vec<u8>>
     ensures { IfOk result (λ bytes. IsCounted word.now bytes.items) }
 {
@@ -51,7 +51,7 @@ pub fn counted_bytes(alloc: Global, word: &str) -> Result<Vec<u8>>
 ///
 /// # Errors
 ///
-/// Where one is no such word, and want of memory.
+/// If one of the words isn't of that form, or out of memory.
 pub fn all_bytes(alloc: Global, words: &[&str]) -> Result<Vec<u8>> {
     let mut all = Vec::new(alloc);
     for word in words {

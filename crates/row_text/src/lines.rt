@@ -16,7 +16,7 @@ fn feed_or(byte: u8) -> u8
 ///
 /// # Errors
 ///
-/// Want of memory.
+/// Out of memory.
 pub fn lines_of(alloc: Global, text: &str) -> Result<Vec<u8>>
     ensures { IfOk result (λ bytes. bytes.items ≡ lines_in text.now) }
 {

@@ -10,7 +10,7 @@ use Rattle.faults.specs.Counts.{Rose, HasCause}
 use Rattle.outside_io.specs.declared.inputs.TakeFault.{TakeFault}
 use Rattle.outside_io.specs.declared.inputs.TakeFault.TheVariants.{OutOfMemory, InputFault}
 
--- how many calls have failed, and how many more did nothing but be interrupted by a signal
+-- how many calls have failed, and how many others a signal interrupted, so that they did nothing
 pub record Calls : Type 0 where
   pub errors : ℕ
   pub interrupted : ℕ
@@ -20,14 +20,14 @@ pub record CallEnds {T E : Type 0} (old new : Calls) (result : Result T E) : Typ
   pub cause : HasCause old.errors new.errors result
   pub interrupted : new.interrupted ≡ old.interrupted
 
--- the same of a call that can be made again where a signal interrupted it, which is no error
+-- a call fails only where the count of errors rose, or where a signal interrupted it; that is no error, and it can be made again
 pub record CallMayStop {T : Type 0} (old new : Calls) (result : Result T Error) : Type 0 where
   pub later : old.errors ≤ new.errors
   pub on_ok : IsOk result → (new.errors ≡ old.errors) × (new.interrupted ≡ old.interrupted)
   pub stopped : IfErr result (λ fault. error_kind fault ≡ Interrupted → (new.errors ≡ old.errors) × (new.interrupted ≡ old.interrupted + 1))
   pub failed : IfErr result (λ fault. (error_kind fault ≡ Interrupted → ⊥) → Rose old.errors new.errors)
 
--- The same of a write. One that takes nothing of some bytes counts as an error.
+-- A write fails only where the count of errors rose, or where a signal interrupted it. One that takes none of some bytes is an error.
 pub record WriteEnds (old new : Calls) (bytes : List ℕ) (result : Result ℕ Error) : Type 0 where
   pub later : old.errors ≤ new.errors
   pub went : IfOk result (λ n. (0 < n) ⊎ (bytes ≡ []) → (new.errors ≡ old.errors) × (new.interrupted ≡ old.interrupted))
@@ -57,7 +57,7 @@ abbrev pub IsLonger : ℕ → Option (List ℕ) → Type 0
 IsLonger most None = ⊥
 IsLonger most (Some bytes) = most < length bytes
 
--- a read of a whole file fails for want of memory, where a call failed, or where the file is too long
+-- a read of a whole file fails only by out of memory, where a call failed, or where the file is too long
 abbrev pub IsExcused : (old new : SourceState) → (too_long : Type 0) → Error → Type 0
 IsExcused old new too_long fault = (error_kind fault ≡ kind.OutOfMemory) ⊎ (Rose old.calls.errors new.calls.errors ⊎ too_long)
 
@@ -75,7 +75,7 @@ pub record StreamState : Type 0 where
   pub taken : List ℕ
   pub calls : Calls
 
--- A write takes so many of the bytes. One that fails takes none.
+-- A write takes the first `n` of the bytes, where it answers `n`. One that fails takes none.
 pub record WritesOn {E : Type 0} (tells : Bool) (old new : StreamState) (bytes : List ℕ) (result : Result ℕ E) : Type 0 where
   pub count : IfOk result (λ n. n ≤ length bytes)
   pub ok : IsTrue tells → IfOk result (λ n. new.taken ≡ old.taken ++ take n bytes)

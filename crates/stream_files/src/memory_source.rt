@@ -24,7 +24,7 @@ pub struct MemorySource {
 }
 
 impl MemorySource {
-    /// A file of this name, read at most so many bytes at a time, and of which so many reads are interrupted first.
+    /// A file of this name, read at most `most` bytes at a time. The first `signals` reads are interrupted.
     pub fn new(name: Word, bytes: Vec<u8>, most: usize, signals: u32) -> MemorySource
         requires { 0 < most }
         ensures name { result.name ≡ name }

@@ -19,7 +19,7 @@ pub struct MemoryStream {
 }
 
 impl MemoryStream {
-    /// A stream that holds these bytes, takes at most so many at a time, and of which so many calls are interrupted first.
+    /// A stream that holds these bytes and takes at most `most` at a time. The first `signals` calls are interrupted.
     pub fn new(held: Vec<u8>, most: usize, signals: u32) -> MemoryStream
         ensures held { result.held ≡ held }
         ensures most { result.most ≡ most }
