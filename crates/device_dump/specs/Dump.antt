@@ -34,11 +34,11 @@ StandsBehind bench (refused device_fault) = IsBrokenOff bench ⊎ IsStillOpen be
 StandsBehind bench (refused out_of_memory) = CellsStay bench.before bench.after ⊎ IsBrokenOff bench
 StandsBehind bench (refused _) = CellsStay bench.before bench.after
 
--- What the command leaves with an answer.
+-- What the command leaves with each answer.
 pub record DumpLeaves (bench : BenchCall) (out : SinkCall) (answer : Answer) : Type 0 where
   pub prints : PrintsNothing out answer
   pub stands : StandsBehind bench answer
-  -- the job file is as it was, and a stop at any moment leaves no cells that one at entry might not have left
+  -- the job file is as it was, and a stop at any moment leaves no cells that a stop at the start might not have left
   pub file : FileStays bench.before bench.after
   pub count : bench.after.cell_count ≡ bench.before.cell_count
   pub stops : AddsNothing (cells_half bench.before) (cells_half bench.after)
@@ -102,7 +102,7 @@ pub record IsDueForBoard (form : TextForm) (bench : BenchCall) (out : SinkCall) 
   pub dumped : (board : board.Shown) (map : List Run) → IsBoard text board → size_of board.regions ≡ bench.before.cell_count → IsTrue bench.tells
       → IsMapOfCells board.regions bench.after.cells map → PrintsText out (text_in form map) answer
 
--- Which refusals `dump` has.
+-- Which refusals `dump` can answer.
 abbrev pub has_dump : Refusal → Bool
 has_dump out_of_memory = true
 has_dump (input_fault name) = true
@@ -112,7 +112,7 @@ has_dump device_fault = true
 has_dump output_fault = true
 has_dump _ = false
 
--- The work of `dump`: all but the status and the line on `err`.
+-- What `dump` does, except for the status and the line on `err`.
 pub record DumpEnds (form : TextForm) (name : List ℕ) (bench : BenchCall) (inputs : InputsCall) (out : SinkCall) (answer : Answer) : Type 0 where
   pub lawful : EndsLawfully on_files bench inputs out has_dump (name ∷ []) answer
   pub leaves : DumpLeaves bench out answer

@@ -45,14 +45,14 @@ pub record CellsSyncEnds {T E : Type 0} (old new : DiskState) (result : Result T
 abbrev pub IsBroken : DiskState → Type 0
 IsBroken d = (d.file_whole ≡ false) ⊎ (d.cells_whole ≡ false)
 
--- Calls of the files, one after the other up to the first that fails: they fail only where the count of errors rose, or a sync failed before.
--- Where they go through, no error came in between.
+-- Several calls on the files, up to the first that fails. They fail only where the count of errors rose, or where a sync failed
+-- before. Where they go through, no error came in between.
 pub record Fails {T E : Type 0} (old new : DiskState) (result : Result T E) : Type 0 where
   pub later : old.errors ≤ new.errors
   pub on_fault : IsErr result → Rose old.errors new.errors ⊎ IsBroken old
   pub on_ok : IsOk result → (new.errors ≡ old.errors) × KeepsSyncs old new
 
--- A call of the bench fails only where its files did. A range of the file that ends past each place that there is fails too.
+-- A call of the bench fails only where its files did, or where the range of the file ends at 2^64 or above.
 abbrev pub FailsAsFiles : DiskState → DiskState → Act → Type 0
 FailsAsFiles old new (FileLen result) = Fails old new result
 FailsAsFiles old new (FileRead at before after result) = at + length before < 2 ^ 64 → Fails old new result

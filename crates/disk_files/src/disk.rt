@@ -11,7 +11,7 @@ ghost use Rattle.disk_files.specs.DiskDoes.{ReadsBytes, OpensRange, ClosesRange,
 use std::io;
 
 /// A job file and a cells file. Offsets and lengths are in bytes, and each cell is one byte.
-/// 
+///
 /// A call may fail, and each failure is counted. The clauses also say what a failed call may leave. A read or a write that a signal
 /// interrupted is no error: it can be made again. A call that was to move bytes and moved none is an error, as at the end of a
 /// file that another program has cut. Once a sync of a file has failed, no later sync of it is sure to reach the disk.

@@ -2,7 +2,7 @@
 -- definition says.
 use Rattle.std.specs.Prelude.{◌≡◌, ◌⊎◌, Result, Ok, Err}
 
--- one check after the other, up to the first that fails
+-- a check and then another: the first one that fails is the answer
 infixl 10 ◌>>=◌
 abbrev pub ◌>>=◌ : {A B E : Type 0} → Result A E → (A → Result B E) → Result B E
 (Ok x) >>= f = f x

@@ -20,7 +20,7 @@ seed_name = codes "--seed"
 abbrev pub rounds_name : List ℕ
 rounds_name = codes "--rounds"
 
--- The options: a name and a number in decimal digits each. A number that isn't given is 1.
+-- The options: each is a name and a number in decimal digits. A number that isn't given is 1.
 
 pub record NoOption (options : List (List ℕ)) (seed rounds : ℕ) : Type 0 where
   pub words_are : options ≡ []
@@ -57,7 +57,7 @@ abbrev pub AreOptions : List (List ℕ) → ℕ → ℕ → Type 0
 AreOptions options seed rounds = NoOption options seed rounds ⊎ (OnlySeed options seed rounds
     ⊎ (OnlyRounds options seed rounds ⊎ (SeedFirst options seed rounds ⊎ RoundsFirst options seed rounds)))
 
--- `BOARD FLM [FLM] [--seed N] [--rounds N]`, the options in either order
+-- the words are `BOARD FLM [FLM] [--seed N] [--rounds N]`, with the options in either order
 pub record Asks (words : List (List ℕ)) (asked : Asked) : Type 0 where
   pub options : List (List ℕ)
   pub words_are : words ≡ names_in asked.files ++ options

@@ -1,4 +1,4 @@
--- What a bench over files tells.
+-- What is visible of a bench over files.
 use Rattle.std.specs.Prelude.{◌≡◌, ◌==◌, ◌&&◌, ◌||◌, ◌++◌, ℕ, Bool, true, false, IsTrue, if◌then◌else◌, List, [], ◌∷◌, Option, Some, None}
 use Rattle.bench_model.specs.State.{BenchState}
 use Rattle.disk_files.specs.DiskState.{over}
@@ -11,7 +11,7 @@ use Rattle.host_files.specs.declared.file_id.FileId.{FileId}
 use Rattle.host_files.specs.declared.file_lock.Hold.TheVariants.{Lost}
 use Rattle.host_files.specs.declared.host_disk.HostDisk.{HostDisk}
 
--- the bench over this host's files, whose cells are read through a window
+-- a bench over this host's files, where the cells are read through a window
 abbrev pub FileBench : (h : Ghosts HostDisk) → Ghosts (WindowedDisk HostDisk h) → Type 0
 FileBench h w = ShownBench (DiskBench (WindowedDisk HostDisk h) w)
 

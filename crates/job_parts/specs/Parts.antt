@@ -20,7 +20,7 @@ use Rattle.job_parts.specs.declared.part.Part.TheVariants as part
 use Rattle.job_parts.specs.Gives.{OnlyLooks, IsDoneOrFault, IsGiven}
 use Rattle.job_parts.specs.Listing.{listing_text}
 
--- the number of a region
+-- the index of a region: 0 or 1
 abbrev pub index_of : Place → ℕ
 index_of place.First = 0
 index_of place.Second = 1

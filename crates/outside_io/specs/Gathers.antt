@@ -5,7 +5,7 @@ use Rattle.outside_io.specs.State.{SinkState}
 use Rattle.outside_io.specs.Appends.{AppendsPart}
 use Rattle.outside_io.specs.declared.sink.OutputFault.{OutputFault}
 
--- a beginning of a text was appended, and this is the rest of it
+-- a beginning of a text was appended, and `rest` is what is left of it
 pub record AppendsUpTo (rest text old new : List ℕ) : Type 0 where
   pub part : List ℕ
   pub text_is : text ≡ part ++ rest

@@ -12,7 +12,7 @@ use Rattle.record_lines.specs.declared.fault.TextFault.TheVariants.{Line, NoEnd}
 
 -- a format of records R, with faults F. C is what has to be known of the lines before a record.
 pub record Format (C R F : Type 0) : Type 0 where
-  -- what a line says by itself: nothing where it is blank, a record, or a fault
+  -- what a line reads as by itself: nothing where it is blank, a record, or a fault
   pub read : List ℕ → Result (Option R) F
   -- what is known before the first line
   pub start : C
@@ -20,18 +20,18 @@ pub record Format (C R F : Type 0) : Type 0 where
   pub behind : Result (Option R) F → C → C
   -- whether a record ends the text
   pub is_end : R → Bool
-  -- the bytes of a record, in its own order
+  -- the cells of a record, in the order of its bytes
   pub cells : C → R → List Cell
-  -- what of a record is at fault after those lines, before its bytes are compared with theirs
+  -- why a record is refused after those lines, before its bytes are compared with theirs
   pub refused : C → R → Option F
-  -- the fault of a record with another byte at an address than a record before it
+  -- the fault of a record that has another byte at an address than an earlier record
   pub conflict : Clash → F
 
 -- the line at a place, from 0 on
 abbrev pub line_at : List (List ℕ) → ℕ → List ℕ
 line_at lines n = get_or lines n []
 
--- what is known of the lines before a place
+-- what is known after the lines before a place
 abbrev pub context_before : {C R F : Type 0} → Format C R F → List (List ℕ) → ℕ → C
 context_before f lines zero = f.start
 context_before f lines (suc n) = f.behind (f.read (line_at lines n)) (context_before f lines n)
@@ -42,13 +42,13 @@ line_cells f c (Ok None) = []
 line_cells f c (Ok (Some r)) = f.cells c r
 line_cells f c (Err fault) = []
 
--- whether it ends the text
+-- whether a line that reads so ends the text
 abbrev pub line_ends : {C R F : Type 0} → Format C R F → Result (Option R) F → Bool
 line_ends f (Ok None) = false
 line_ends f (Ok (Some r)) = f.is_end r
 line_ends f (Err fault) = false
 
--- a clash as a fault, where no other is there
+-- the first fault of a record: a fault that was found already, or else a clash
 abbrev pub or_clash : {C R F : Type 0} → Format C R F → Option F → Option Clash → Option F
 or_clash f (Some fault) clash = Some fault
 or_clash f None None = None
@@ -124,13 +124,13 @@ abbrev pub IsLineFault : {C R F : Type 0} → Format C R F → Result (Option R)
 IsLineFault f reading before c (Refused fault) = line_fault f c before reading ≡ Some fault
 IsLineFault f reading before c line.OutOfMemory = Unit {0}
 
--- what is at fault with a text, or that no memory was left
+-- why a text is refused: a fault of a line, a missing end, or out of memory
 abbrev pub IsTextFault : {C R F : Type 0} → Format C R F → List (List ℕ) → TextFault F → Type 0
 IsTextFault f lines (Line line fault) = IsFaultOfLine f lines line fault
 IsTextFault f lines (NoEnd line) = HasNoEnd f lines line
 IsTextFault f lines text.OutOfMemory = Unit {0}
 
--- whether it is that no memory was left, which says nothing of the text
+-- the fault is out of memory, which says nothing about the text
 abbrev pub IsMemoryFault : {F : Type 0} → TextFault F → Type 0
 IsMemoryFault (Line line fault) = ⊥
 IsMemoryFault (NoEnd line) = ⊥
