@@ -14,8 +14,8 @@ use std::marker::Model;
 /// How many addresses there are.
 const ADDRESSES: u64 = 1 << 32;
 
-/// A finite map from address to byte. It is seen as its runs, each as long as possible, which rise
-/// and don't touch: there is one way to write a map so.
+/// A finite map from address to byte. A contract sees it as its runs, which rise, don't touch, and are each as long as
+/// possible: each map has exactly one such list.
 #[derive(Drop)]
 pub struct ByteMap {
     runs: RunList,
@@ -82,7 +82,7 @@ impl ByteMap {
         Ok(())
     }
 
-    /// The byte at an address, in a time logarithmic in the number of runs.
+    /// The byte at an address, if there is one, in a time logarithmic in the number of runs.
     pub fn get(&self, at: u32) -> Option<u8>
         ensures { result ≡ byte_at self.now at }
     {
@@ -105,7 +105,7 @@ impl ByteMap {
         self.runs.len()
     }
 
-    /// A run: the address of its first byte, and its bytes, in a time logarithmic in the number of runs. The
+    /// The address of a run's first byte, and the run's bytes, in a time logarithmic in the number of runs. The
     /// runs rise with their index.
     pub fn run(&self, index: usize) -> (u32, &[u8])
         requires { index < length self.now }

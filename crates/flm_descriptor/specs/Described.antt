@@ -10,7 +10,7 @@ use Rattle.flm_descriptor.specs.declared.fault.FlmFault.TheVariants.{DescriptorS
 use Rattle.flm_descriptor.specs.declared.device.Device.{Device}
 use Rattle.flm_descriptor.specs.declared.items.SectorItem.{SectorItem}
 
--- the fields of the structure at a place
+-- the fields of the structure at a place of the section
 unfoldable pub fields_at : List ℕ → ℕ → Device
 fields_at bytes at = record {
   vers = field16 bytes at;
@@ -33,7 +33,7 @@ device_of bytes at = if nat_lt (length bytes) (at + 160) then Err DescriptorShor
 unfoldable pub item_at : List ℕ → ℕ → ℕ → SectorItem
 item_at bytes at k = record { size = field32 bytes (at + 160 + 8 * k); offset = field32 bytes (at + 164 + 8 * k) }
 
--- SECTOR_END: the pair that ends the items
+-- whether pair `k` is SECTOR_END, which ends the items
 unfoldable pub is_end : List ℕ → ℕ → ℕ → Bool
 is_end bytes at k = ((item_at bytes at k).size == 0xFFFF_FFFF) && ((item_at bytes at k).offset == 0xFFFF_FFFF)
 

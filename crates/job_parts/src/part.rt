@@ -12,7 +12,7 @@ pub enum Place {
 /// A part of a job.
 #[derive(Clone, Copy)]
 pub enum Part {
-    /// What the job is, line by line.
+    /// The listing of the job, line by line.
     Listing,
 
     /// The text of the job's board.

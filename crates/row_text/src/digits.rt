@@ -7,11 +7,11 @@ ghost use Rattle.row_text.specs.Rows.{IsCounted};
 use anyhow::Result;
 use std::alloc::Global;
 
-/// The number of a word.
+/// The number that a word gives in hexadecimal digits.
 ///
 /// # Errors
 ///
-/// What is no number below 2^32 in hexadecimal digits.
+/// If the word isn't a number below 2^32 in hexadecimal digits.
 pub fn number(word: &str) -> Result<u32>
     ensures { ParsesUnsigned 32 16 word.now result }
 {
@@ -29,7 +29,7 @@ pub fn bytes_of(alloc: Global, digits: &str) -> Result<Vec<u8>>
     Ok(hex::decode(alloc, digits)?)
 }
 
-/// The bytes of a word: pairs of digits, and perhaps a star and how often they stand there, in decimal digits. No bytes are `-`.
+/// The bytes of a word: pairs of digits, perhaps with a star and how often they are repeated, in decimal digits. No bytes are `-`.
 ///
 /// # Errors
 ///

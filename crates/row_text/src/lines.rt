@@ -5,7 +5,7 @@ ghost use Rattle.row_text.specs.Rows.{ended, lines_in};
 use anyhow::Result;
 use std::alloc::Global;
 
-/// What stands for a byte: a bar ends a line.
+/// The byte that a byte of a row stands for: a bar ends a line.
 fn feed_or(byte: u8) -> u8
     ensures { result ≡ ended byte }
 {

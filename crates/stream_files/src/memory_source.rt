@@ -7,7 +7,7 @@ use octets::Word;
 use std::io;
 use std::io::ErrorKind;
 
-/// One file in memory, which is read a few bytes at a time. The first reads are interrupted. It tells what stands under each name.
+/// One file in memory, which is read a few bytes at a time. The first reads are interrupted. Contracts see what file each name has.
 #[derive(Drop)]
 pub struct MemorySource {
     name: Word,

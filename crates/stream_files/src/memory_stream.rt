@@ -6,7 +6,7 @@ use faults::FaultCount;
 use std::io;
 use std::io::ErrorKind;
 
-/// A stream in memory that takes a few bytes at a time, or none. Its first calls are interrupted. It tells what it has taken.
+/// A stream in memory that takes a few bytes at a time, or none. The first calls are interrupted. Contracts see what it has taken.
 #[derive(Drop)]
 pub struct MemoryStream {
     held: Vec<u8>,
@@ -36,7 +36,7 @@ impl MemoryStream {
         }
     }
 
-    /// What it holds.
+    /// The bytes that the stream holds.
     pub fn bytes(&self) -> &[u8]
         ensures { result.now ≡ self.now.held.items }
     {
