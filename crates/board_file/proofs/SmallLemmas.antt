@@ -15,7 +15,7 @@ use Rattle.board_file.specs.Small.{are_many, small_regions, unless_too_big}
 abbrev said : Bool → List Region → Result (List Region) BoardFault
 said big rs = if big then Err (fault.TooBig key.RegionSectors) else Ok rs
 
--- what is said of regions behind so many cells and sectors
+-- whether regions are too big, where the regions before them have this number of cells and sectors
 abbrev big_behind : ℕ → ℕ → List Region → Bool
 big_behind cells sectors rs = list_any is_too_big rs || are_many (cells + size_of rs) (sectors + sectors_in rs)
 

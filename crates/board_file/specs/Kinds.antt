@@ -7,22 +7,22 @@ use Rattle.board_file.specs.declared.key.Key.{Key}
 use Rattle.board_file.specs.declared.key.Key.TheVariants as key
 use Rattle.board_file.specs.Table.{addresses}
 
--- the kinds by their names
+-- the kind of controller with this name
 abbrev pub kind_named : List ℕ → Option ControllerKind
 kind_named name = if bytes_eq name (codes "fc1") then Some kind.Fc1 else if bytes_eq name (codes "fpec") then Some kind.Fpec else None
 
--- the bytes of the flash controller's registers
+-- how many bytes the registers of a flash controller have
 abbrev pub block_of : ControllerKind → ℕ
 block_of kind.Fc1 = 32
 block_of kind.Fpec = 64
 
--- what it takes of the numbers of a region's key: FPEC programs halfwords, and erases to ones
+-- whether a kind of controller takes this number at a key of a region: FPEC programs halfwords, and erases to ones
 abbrev pub takes_of_region : ControllerKind → Key → ℕ → Bool
 takes_of_region kind.Fpec key.RegionEmpty n = nat_eq n 255
 takes_of_region kind.Fpec key.RegionUnit n = nat_eq n 2
 takes_of_region _ _ n = true
 
--- what it takes of the numbers of a key: those of a region, and a base whose block ends by the last address
+-- whether a kind of controller takes this number at a key: of a region, or a base whose block ends by the last address
 abbrev pub takes : ControllerKind → Key → ℕ → Bool
 takes c key.ControllerBase n = nat_le (n + block_of c) addresses
 takes c k n = takes_of_region c k n

@@ -55,7 +55,7 @@ fn sectors(
     Ok(Some((sum, runs)))
 }
 
-/// The region that a text writes behind others, unless it is too big.
+/// The next region that a text writes, unless it is too big with those before it.
 fn small_region(
     alloc: Global,
     before: Sum,
@@ -176,7 +176,7 @@ fn parts(alloc: Global, parts: &WrittenParts, regions: &[Region]) -> Result<Vec<
     Ok(found)
 }
 
-/// The parts with the quiet ranges behind them.
+/// The parts before, followed by the quiet ranges.
 fn with_quiet(before: Vec<Placed>, written: &[WrittenQuiet]) -> Result<Vec<Placed>, AllocError>
     ensures { IfOk result (λ v. v.items ≡ before.items ++ quiet_parts (quiets_shown written.now)) }
 {

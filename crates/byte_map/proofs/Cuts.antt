@@ -107,7 +107,7 @@ cut_both f xs ys limit count count' rises cut cut' =
           (cases_lt k (length xs));
     }
 
--- a number behind the runs of a node, before them, and among them
+-- where a number falls: after the runs of a node, before them, or among them
 pub cut_behind : (f : Run → ℕ) (left chunk right : List Run) (limit count : ℕ) → Rises f (left ++ (chunk ++ right)) → 1 ≤ length chunk →
     f (run_at chunk (length chunk - 1)) < limit → IsCut f right limit count → IsCut f (left ++ (chunk ++ right)) limit (length left + (length chunk + count))
 cut_behind f left chunk right limit count rises some lt cut =

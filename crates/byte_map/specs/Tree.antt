@@ -1,4 +1,4 @@
--- What a side of a tree of runs is seen as, and what putting in and taking out make of it.
+-- What a side of a tree of runs means, and what inserting and removing make of it.
 use Rattle.std.specs.Prelude.{◌≤◌, ◌<◌, ℕ, suc, List, [], ◌++◌, length, Option, Some, None, take, drop}
 use Rattle.std.specs.Global.{Box}
 use Rattle.byte_map.specs.Image.{Run, run_at}
@@ -16,15 +16,15 @@ abbrev pub nodes_in : Option (Box Tree) → ℕ
 nodes_in None = 0
 nodes_in (Some node) = node.value.nodes
 
--- runs put in at a place
+-- a list of runs with others inserted at a place
 abbrev pub put_in : List Run → ℕ → List Run → List Run
 put_in runs index new = take index runs ++ (new ++ drop index runs)
 
--- the run at a place taken out
+-- a list of runs without the one at a place
 abbrev pub taken_out : List Run → ℕ → List Run
 taken_out runs index = take index runs ++ drop (suc index) runs
 
--- a number of runs is below a limit at the first `count` runs, and at no other
+-- the measure is below `limit` for the first `count` runs and for no other
 pub record IsCut (measure : Run → ℕ) (runs : List Run) (limit count : ℕ) : Type 0 where
   pub within : count ≤ length runs
   pub below : (k : ℕ) → k < count → measure (run_at runs k) < limit

@@ -1,4 +1,4 @@
-//! Where an address falls among runs that lie side by side in memory.
+//! Where an address falls among runs that are side by side in memory.
 ghost use Rattle.std.specs.Prelude.{◌≤◌, ◌<◌, ℕ, length};
 ghost use Rattle.byte_map.specs.Image.{addresses, run_at, end_of, AreMaximal};
 

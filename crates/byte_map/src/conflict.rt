@@ -7,7 +7,7 @@ ghost use Rattle.byte_map.specs.Laying.{AgreesBelow, AgreesWithRun, ClashesWithR
 use crate::run_buffer::RunBuffer;
 use crate::run_list::RunList;
 
-/// Bytes found unequal at an address.
+/// Two unequal bytes at an address.
 #[derive(Clone, Copy)]
 pub struct Clash {
     pub at: u32,
@@ -15,7 +15,7 @@ pub struct Clash {
     pub new: u8,
 }
 
-/// The first byte of a piece, `bytes` from `at` on, that differs from the run's.
+/// The first byte of a piece, `bytes` from `at` on, that differs from the byte of a run.
 fn first_clash(run: &RunBuffer, at: u32, bytes: &[u8]) -> Option<Clash>
     requires { at + length bytes.now ≤ addresses }
     ensures { let piece : Run = record { at = at; bytes = bytes.now } in MatchOption result (AgreesWithRun piece run.now addresses)
@@ -37,7 +37,7 @@ fn first_clash(run: &RunBuffer, at: u32, bytes: &[u8]) -> Option<Clash>
     None
 }
 
-/// The first byte of a piece that differs from a map's. The piece touches the map's runs from `first` on
+/// The first byte of a piece that differs from the byte of a map. The piece touches the map's runs from `first` on
 /// and before `last`.
 pub fn find_clash(runs: &RunList, first: usize, last: usize, at: u32, bytes: &[u8]) -> Option<Clash>
     requires fits { at + length bytes.now ≤ addresses }

@@ -9,7 +9,7 @@ use crate::run_list::RunList;
 use std::alloc::AllocError;
 
 /// Adds a piece, `bytes` from `at` on, to the runs of a map. It touches the runs from `first` on
-/// and before `last`, and agrees with them. Without memory the runs stay as they were.
+/// and before `last`, and agrees with them. If memory runs out, the runs are unchanged.
 pub fn join(
     runs: &mut RunList,
     first: usize,
@@ -40,7 +40,7 @@ pub fn join(
     }
 }
 
-/// Puts a piece that touches no run among the runs.
+/// Inserts a piece that touches no run.
 fn put_apart(runs: &mut RunList, first: usize, at: u32, bytes: &[u8]) -> Result<(), AllocError>
     requires { CanJoin (record { at = at; bytes = bytes.now }) runs.old first first }
     ensures ok { OnOk result (Lays (record { at = at; bytes = bytes.now }) runs.old runs.new) }
@@ -51,7 +51,7 @@ fn put_apart(runs: &mut RunList, first: usize, at: u32, bytes: &[u8]) -> Result<
     Ok(())
 }
 
-/// Puts a piece in the place of the runs that it covers.
+/// Puts a piece in place of the runs that it covers.
 fn cover(
     runs: &mut RunList,
     first: usize,
@@ -72,7 +72,7 @@ fn cover(
     Ok(())
 }
 
-/// Makes the first run that a piece touches longer, up to the end of the piece and of the last run.
+/// Extends the first run that a piece touches up to the end of the piece and of the last run.
 fn extend_first(
     runs: &mut RunList,
     first: usize,
@@ -95,7 +95,7 @@ fn extend_first(
     Ok(())
 }
 
-/// Makes the last run that a piece touches longer, down to the beginning of the piece and of the first run.
+/// Extends the last run that a piece touches down to the beginning of the piece and of the first run.
 fn extend_last(
     runs: &mut RunList,
     first: usize,

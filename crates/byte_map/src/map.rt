@@ -14,8 +14,8 @@ use std::marker::Model;
 /// How many addresses there are.
 const ADDRESSES: u64 = 1 << 32;
 
-/// A finite map from address to byte. It is seen as its runs, each as long as possible, which rise
-/// and don't touch: there is one way to write a map so.
+/// A finite map from address to byte. A contract sees it as its runs, which rise, don't touch, and are each as long as
+/// possible: each map has exactly one such list.
 #[derive(Drop)]
 pub struct ByteMap {
     runs: RunList,
@@ -45,9 +45,9 @@ impl ByteMap {
         }
     }
 
-    /// Adds the bytes from the address `at` on. A byte that the map has already is accepted. A record costs
+    /// Adds the bytes from the address `at` on. A byte that the map already has is accepted. A record costs
     /// time logarithmic in the number of runs, in whatever order records come, and amortised constant time a
-    /// byte. What lies at the last few runs or behind them is found without a walk down the tree.
+    /// byte. Bytes at the last few runs or after them are added without a walk down the tree.
     pub fn lay(&mut self, at: u32, bytes: &[u8]) -> Result<(), LayFault>
         ensures ok { OnOk result (Lays (record { at = at; bytes = bytes.now }) self.old self.new) }
         ensures refused { IfErr result (IsLayFault (record { at = at; bytes = bytes.now }) self.old) }
@@ -82,7 +82,7 @@ impl ByteMap {
         Ok(())
     }
 
-    /// The byte at an address, in a time logarithmic in the number of runs.
+    /// The byte at an address, if there is one, in a time logarithmic in the number of runs.
     pub fn get(&self, at: u32) -> Option<u8>
         ensures { result ≡ byte_at self.now at }
     {
@@ -105,7 +105,7 @@ impl ByteMap {
         self.runs.len()
     }
 
-    /// A run: the address of its first byte, and its bytes, in a time logarithmic in the number of runs. The
+    /// The address of a run's first byte, and the run's bytes, in a time logarithmic in the number of runs. The
     /// runs rise with their index.
     pub fn run(&self, index: usize) -> (u32, &[u8])
         requires { index < length self.now }
@@ -115,8 +115,8 @@ impl ByteMap {
         (run.at(), run.bytes())
     }
 
-    /// Lays the map over cells, the first of which has the address `base`: each becomes the map's byte
-    /// at its address, and stays where the map has none.
+    /// Lays the map over cells, where the first cell has the address `base`. Each cell becomes the map's byte
+    /// at its address, and is unchanged where the map has none.
     pub fn overlay_into(&self, base: u32, old: &mut [u8])
         requires { base + length old.old ≤ addresses }
         ensures { old.new ≡ over self.now base old.old }

@@ -1,5 +1,5 @@
-//! The runs of a map in order: a balanced tree, and behind it a short tail of the last ones. Runs that are laid in rising
-//! order go into the tail, and from there into the tree a node at a time, so that no walk down the tree is needed.
+//! The runs of a map in order: a balanced tree, and then a short tail with the last runs. Runs that come in rising order go into
+//! the tail. From there they go into the tree a node at a time, so that no walk down the tree is needed.
 ghost use Rattle.std.specs.Prelude.{◌≡◌, ◌+◌, ◌-◌, ◌<◌, ◌≤◌, ◌^◌, [], ◌∷◌, ◌++◌, length, take, drop, OnOk, OnErr};
 ghost use Rattle.std.proofs.Math.ListN.{set};
 ghost use Rattle.byte_map.specs.Image.{addresses, run_at, end_of, AreMaximal};
@@ -19,7 +19,7 @@ use std::marker::Model;
 pub struct RunList {
     alloc: Global,
     tree: Side,
-    /// The last runs.
+    /// The last runs, which aren't in the tree.
     tail: Vec<RunBuffer>,
 }
 
@@ -47,7 +47,7 @@ impl RunList {
         }
     }
 
-    /// Where memory for runs is from.
+    /// The allocator of the runs.
     pub fn allocator(&self) -> Global {
         self.alloc
     }
@@ -61,7 +61,7 @@ impl RunList {
         count_of(&self.tree) + self.tail.len()
     }
 
-    /// A run.
+    /// The run at an index.
     #[tactic(auto, using(crate::proofs::Sides::sides))]
     pub fn get(&self, index: usize) -> &RunBuffer
         requires { index < length self.now }
@@ -107,7 +107,7 @@ impl RunList {
         }
     }
 
-    /// Puts a run in at a place.
+    /// Inserts a run at an index.
     #[tactic(auto, using(crate::proofs::Sides::sides))]
     pub fn insert(&mut self, index: usize, run: RunBuffer) -> Result<(), AllocError>
         requires within { index ≤ length self.old }
@@ -125,8 +125,8 @@ impl RunList {
         Ok(())
     }
 
-    /// Puts all runs of a tail that is full but the last one into the tree. Where no memory is left for that, the tail
-    /// stays as it is.
+    /// Moves all runs but the last one of a full tail into the tree. If memory runs out for that, the tail
+    /// is unchanged.
     #[tactic(auto, using(crate::proofs::Sides::sides))]
     fn shorten_tail(&mut self)
         ensures { self.new ≡ self.old }
@@ -140,7 +140,7 @@ impl RunList {
         }
     }
 
-    /// Puts another run in the place of one.
+    /// Replaces the run at an index.
     #[tactic(auto, using(crate::proofs::Sides::resets))]
     pub fn replace(&mut self, index: usize, run: RunBuffer)
         requires { index < length self.old }
@@ -154,7 +154,7 @@ impl RunList {
         }
     }
 
-    /// Adds `middle` and then `end` behind a run.
+    /// Appends `middle` and then `end` to a run.
     #[tactic(auto, using(crate::proofs::Sides::resets))]
     pub fn append(&mut self, index: usize, middle: &[u8], end: &[u8]) -> Result<(), AllocError>
         requires within { index < length self.old }
@@ -171,7 +171,7 @@ impl RunList {
         }
     }
 
-    /// Adds `front` and then `middle` before a run.
+    /// Puts `front` and then `middle` before a run.
     #[tactic(auto, using(crate::proofs::Sides::resets))]
     pub fn prepend(&mut self, index: usize, front: &[u8], middle: &[u8]) -> Result<(), AllocError>
         requires within { index < length self.old }

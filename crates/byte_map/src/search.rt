@@ -5,7 +5,7 @@ ghost use Rattle.byte_map.specs.Joining.{Touches};
 
 use crate::run_list::RunList;
 
-/// Which runs touch a piece, `bytes` from `at` on: those from the first place on and before the second.
+/// The runs that touch a piece, `bytes` from `at` on: from the first index answered on, and before the second.
 pub fn find_touched(runs: &RunList, at: u32, bytes: &[u8]) -> (usize, usize)
     requires maximal { AreMaximal 0 addresses runs.now }
     requires fits { at + length bytes.now ≤ addresses }

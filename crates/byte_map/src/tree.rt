@@ -1,5 +1,5 @@
-//! A balanced tree of runs in order: each is read, put in and taken out in logarithmic time. A node has several runs, so
-//! that few nodes lie on the way to one.
+//! A balanced tree of runs in order. Each run is read, inserted and removed in logarithmic time. A node has several runs, so
+//! that the way to a run has few nodes.
 ghost use Rattle.std.specs.Prelude.{◌≡◌, ◌+◌, ◌-◌, ◌<◌, ◌≤◌, ◌^◌, [], ◌∷◌, ◌++◌, length, IfOk, OnOk, OnErr};
 ghost use Rattle.std.proofs.Math.ListN.{set};
 ghost use Rattle.byte_map.specs.Image.{addresses, run_at, end_of, AreMaximal};
@@ -11,13 +11,13 @@ use std::alloc::AllocError;
 use std::marker::Model;
 use std::mem;
 
-/// How many runs a node is to have less than. Where no memory is left to split it, it has more.
+/// A node has fewer runs than this, unless memory runs out when it has to be split.
 pub const LIMIT: usize = 32;
 
-/// What is before the runs of a node, or behind them.
+/// The runs before those of a node, or after them.
 pub type Side = Option<Box<Node>>;
 
-/// Runs, those before them, those behind them, and how many runs and nodes there are. Neither side has more than three
+/// Runs, those before them, those after them, and how many runs and nodes there are. Neither side has more than three
 /// times as many nodes as the other, where the two have more than one.
 #[derive(Drop)]
 pub struct Node {
@@ -45,7 +45,7 @@ impl Model for Node {
     ghost size_decreases = { λ n h. Prim.grind (arith) };
 }
 
-/// A node with nothing at its sides.
+/// A node with empty sides.
 fn leaf(chunk: Vec<RunBuffer>) -> Node
     ensures { result.runs ≡ chunk.items }
 {
@@ -59,7 +59,7 @@ fn leaf(chunk: Vec<RunBuffer>) -> Node
     }
 }
 
-/// Cuts off the runs from a place on: a node with them.
+/// Moves the runs from an index on into a new node.
 fn split_back(chunk: &mut Vec<RunBuffer>, at: usize) -> Result<Box<Node>, AllocError>
     requires { at ≤ length chunk.old.items }
     ensures ok { IfOk result (λ node. chunk.old.items ≡ chunk.new.items ++ node.value.runs) }
@@ -71,7 +71,7 @@ fn split_back(chunk: &mut Vec<RunBuffer>, at: usize) -> Result<Box<Node>, AllocE
     Ok(node)
 }
 
-/// Cuts off the runs before a place: a node with them.
+/// Moves the runs before an index into a new node.
 pub fn split_front(chunk: &mut Vec<RunBuffer>, at: usize) -> Result<Box<Node>, AllocError>
     requires { at ≤ length chunk.old.items }
     ensures ok { IfOk result (λ node. chunk.old.items ≡ node.value.runs ++ chunk.new.items) }
@@ -102,14 +102,14 @@ fn nodes_of(side: &Side) -> usize {
     }
 }
 
-/// How many nodes a node with two sides is.
+/// How many nodes a node with these two sides has, itself included.
 fn nodes_between(left: &Side, right: &Side) -> usize {
     nodes_of(left)
         .saturating_add(nodes_of(right))
         .saturating_add(1)
 }
 
-/// A run of a side.
+/// The run of a side at an index.
 #[tactic(auto, using(crate::proofs::Sides::sides))]
 pub fn get(side: &Side, index: usize) -> &RunBuffer
     requires { index < length (runs_of side.now) }
@@ -198,7 +198,7 @@ pub fn beginning_below(side: &Side, address: u64) -> usize
     }
 }
 
-/// Makes the node before the top one the top one.
+/// Makes the top node's left child the top node.
 #[tactic(auto, using(crate::proofs::Sides::sides))]
 fn raise_left(mut top: Box<Node>) -> Box<Node>
     ensures { result.value.runs ≡ top.value.runs }
@@ -219,7 +219,7 @@ fn raise_left(mut top: Box<Node>) -> Box<Node>
     raised
 }
 
-/// Makes the node behind the top one the top one.
+/// Makes the top node's right child the top node.
 #[tactic(auto, using(crate::proofs::Sides::sides))]
 fn raise_right(mut top: Box<Node>) -> Box<Node>
     ensures { result.value.runs ≡ top.value.runs }
@@ -240,7 +240,7 @@ fn raise_right(mut top: Box<Node>) -> Box<Node>
     raised
 }
 
-/// Makes the left side of a node the heavier one, where the right one has twice as many nodes.
+/// Makes the left side of a node the heavier one, if the right one has twice as many nodes.
 fn lean_left(top: Box<Node>) -> Box<Node>
     ensures { result.value.runs ≡ top.value.runs }
 {
@@ -251,7 +251,7 @@ fn lean_left(top: Box<Node>) -> Box<Node>
     }
 }
 
-/// Makes the right side of a node the heavier one, where the left one has twice as many nodes.
+/// Makes the right side of a node the heavier one, if the left one has twice as many nodes.
 fn lean_right(top: Box<Node>) -> Box<Node>
     ensures { result.value.runs ≡ top.value.runs }
 {
@@ -262,7 +262,7 @@ fn lean_right(top: Box<Node>) -> Box<Node>
     }
 }
 
-/// Balances a node after a node was put in at one of its sides, or taken out there.
+/// Balances a node after a node was inserted at one of its sides, or removed there.
 #[tactic(auto, using(crate::proofs::Sides::sides))]
 fn balance(mut top: Box<Node>) -> Box<Node>
     ensures { result.value.runs ≡ top.value.runs }
@@ -289,7 +289,7 @@ fn balance(mut top: Box<Node>) -> Box<Node>
     top
 }
 
-/// Balances a side where a node was put in.
+/// Balances a side if a node was inserted.
 fn settle(side: &mut Side, added: bool)
     ensures { runs_of side.new ≡ runs_of side.old }
 {
@@ -301,7 +301,7 @@ fn settle(side: &mut Side, added: bool)
     }
 }
 
-/// Puts a node in before the runs of a side.
+/// Inserts a node before all runs of a side.
 #[tactic(auto, using(crate::proofs::Sides::sides))]
 fn put_first(side: Side, leaf: Box<Node>) -> Box<Node>
     requires { length leaf.value.runs + length (runs_of side) < 2 ^ 64 }
@@ -316,7 +316,7 @@ fn put_first(side: Side, leaf: Box<Node>) -> Box<Node>
     balance(top)
 }
 
-/// Puts a node in behind the runs of a side.
+/// Inserts a node after all runs of a side.
 #[tactic(auto, using(crate::proofs::Sides::sides))]
 pub fn put_last(side: Side, leaf: Box<Node>) -> Box<Node>
     requires { length (runs_of side) + length leaf.value.runs < 2 ^ 64 }
@@ -331,7 +331,7 @@ pub fn put_last(side: Side, leaf: Box<Node>) -> Box<Node>
     balance(top)
 }
 
-/// Puts a run in among those of a node. What is too much for it comes back as a node, the next one.
+/// Inserts a run among those of a node. If they get too many, the later ones are answered as a new node, the next one.
 #[tactic(auto, using(crate::proofs::Sides::sides))]
 fn put_in_chunk(
     chunk: &mut Vec<RunBuffer>,
@@ -353,7 +353,7 @@ fn put_in_chunk(
     }
 }
 
-/// One side before another.
+/// One side followed by another.
 fn put_before(rest: Side, side: Side) -> Side
     requires { length (runs_of rest) + length (runs_of side) < 2 ^ 64 }
     ensures { runs_of result ≡ runs_of rest ++ runs_of side }
@@ -364,7 +364,7 @@ fn put_before(rest: Side, side: Side) -> Side
     }
 }
 
-/// Puts a run in before one of a side. It answers whether that made a node.
+/// Inserts a run of a side at an index. Answers whether a node was added.
 #[tactic(auto, using(crate::proofs::Sides::sides))]
 pub fn insert(side: &mut Side, index: usize, run: RunBuffer) -> Result<bool, AllocError>
     requires within { index < length (runs_of side.old) }
@@ -397,7 +397,7 @@ pub fn insert(side: &mut Side, index: usize, run: RunBuffer) -> Result<bool, All
     Ok(added)
 }
 
-/// Takes the first node out: its runs, and the others.
+/// Removes the first node: answers its runs, and the rest of the side.
 #[tactic(auto, using(crate::proofs::Sides::sides))]
 fn take_first(mut top: Box<Node>) -> (Vec<RunBuffer>, Side)
     ensures { top.value.runs ≡ result.0.items ++ runs_of result.1 }
@@ -415,7 +415,7 @@ fn take_first(mut top: Box<Node>) -> (Vec<RunBuffer>, Side)
     (first, Some(balance(top)))
 }
 
-/// Gives a node with no runs of its own those of the next one.
+/// Gives a node without runs of its own those of the next node.
 #[tactic(auto, using(crate::proofs::Sides::sides))]
 fn refill(mut top: Box<Node>) -> Side
     ensures { runs_of result ≡ top.value.runs }
@@ -434,7 +434,7 @@ fn refill(mut top: Box<Node>) -> Side
     Some(balance(top))
 }
 
-/// Takes a run out of a side.
+/// Removes the run of a side at an index.
 #[tactic(auto, using(crate::proofs::Sides::sides))]
 pub fn remove(side: Side, index: usize) -> Side
     requires { index < length (runs_of side) }
@@ -460,7 +460,7 @@ pub fn remove(side: Side, index: usize) -> Side
     refill(top)
 }
 
-/// Adds `middle` and then `end` behind a run of a side.
+/// Appends `middle` and then `end` to a run of a side.
 #[tactic(auto, using(crate::proofs::Sides::resets))]
 pub fn append(side: &mut Side, index: usize, middle: &[u8], end: &[u8]) -> Result<(), AllocError>
     requires within { index < length (runs_of side.old) }
@@ -483,7 +483,7 @@ pub fn append(side: &mut Side, index: usize, middle: &[u8], end: &[u8]) -> Resul
     node.chunk[place].append(middle, end)
 }
 
-/// Adds `front` and then `middle` before a run of a side.
+/// Puts `front` and then `middle` before a run of a side.
 #[tactic(auto, using(crate::proofs::Sides::resets))]
 pub fn prepend(side: &mut Side, index: usize, front: &[u8], middle: &[u8]) -> Result<(), AllocError>
     requires within { index < length (runs_of side.old) }
@@ -509,7 +509,7 @@ pub fn prepend(side: &mut Side, index: usize, front: &[u8], middle: &[u8]) -> Re
     node.chunk[place].prepend(front, middle)
 }
 
-/// Puts another run in the place of one of a side.
+/// Replaces the run of a side at an index.
 #[tactic(auto, using(crate::proofs::Sides::resets))]
 pub fn replace(side: &mut Side, index: usize, run: RunBuffer)
     requires { index < length (runs_of side.old) }

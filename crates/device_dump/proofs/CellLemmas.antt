@@ -16,7 +16,7 @@ use Rattle.device_dump.specs.CellMaps.{cell_runs, IsMapOfCells}
 pub one_map : (regions : List Region) (cells : List ℕ) (a b : List Run) → IsMapOfCells regions cells a → IsMapOfCells regions cells b → a ≡ b
 one_map regions cells a b one two = one_list 0 addresses a b one.maximal two.maximal (λ x. one.same x ∙ sym (two.same x))
 
--- the cells of a region, and those of the regions behind it
+-- a region has its own size in cells, and the regions after it have the rest
 pub cells_more : (regions : List Region) (i : ℕ) (d : Region) → i < length regions
     → size_of (drop i regions) ≡ (get_or regions i d).size + size_of (drop (i + 1) regions)
 cells_more regions i d less = sum_by-drop_more (λ (r : Region). r.size) regions i d less
@@ -68,7 +68,7 @@ one_mapped regions cells i place end region d map new less here is so_far lays =
       left = omega (arith, so_far.left, cells_more regions i d less, own, is);
     }
 
--- its cells are there
+-- the cells of the next region are there
 pub mapped_within : (regions : List Region) (cells : List ℕ) (i place : ℕ) (d : Region) (map : List Run) → i < length regions
     → IsMapSoFar regions cells i place map
     → place + (get_or regions i d).size ≤ length cells

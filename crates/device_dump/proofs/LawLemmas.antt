@@ -18,7 +18,7 @@ use Rattle.device_dump.specs.Dump.{text_in}
 abbrev IsByte : ℕ → Type 0
 IsByte byte = byte < 256
 
--- the cells of a region, and those behind it
+-- a byte of the first run, or of the runs after it
 run_byte : (r : Run) (rest : List Run) (a byte : ℕ) (h : Bool) → holds r a ≡ h → All IsByte r.bytes → (byte_at rest a ≡ Some byte → IsByte byte)
     → cond h (Some (byte_of r a)) (byte_at rest a) ≡ Some byte → IsByte byte
 run_byte r rest a byte true held bytes later is =

@@ -3,7 +3,7 @@ use Rattle.std.specs.Prelude.{ℕ, List, [], ◌∷◌, take, drop}
 use Rattle.board_file.specs.declared.region.Region.{Region}
 use Rattle.byte_map.specs.Image.{addresses, Run, IsSameMap, AreMaximal}
 
--- cells as runs, one for each region: the first cells are those of the first region, and the others follow
+-- the cells of a board as runs, one for each region: the first cells are those of the first region, and the others follow
 abbrev pub cell_runs : List Region → List ℕ → List Run
 cell_runs [] cells = []
 cell_runs (r ∷ rs) cells = record { at = r.base; bytes = take r.size cells } ∷ cell_runs rs (drop r.size cells)

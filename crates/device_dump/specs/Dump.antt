@@ -26,7 +26,7 @@ abbrev pub text_in : TextForm → List Run → List ℕ
 text_in Hex map = hex_text map
 text_in Srec map = srec_text map
 
--- What stands of the cells. For want of memory the command may end before they are looked at, or when they were read.
+-- How far the cells were read. Out of memory may come before they are looked at, or after they were read.
 abbrev pub StandsBehind : BenchCall → Answer → Type 0
 StandsBehind bench done = IsBrokenOff bench
 StandsBehind bench (refused output_fault) = IsBrokenOff bench
@@ -34,18 +34,18 @@ StandsBehind bench (refused device_fault) = IsBrokenOff bench ⊎ IsStillOpen be
 StandsBehind bench (refused out_of_memory) = CellsStay bench.before bench.after ⊎ IsBrokenOff bench
 StandsBehind bench (refused _) = CellsStay bench.before bench.after
 
--- What the command leaves with an answer.
+-- What the command leaves with each answer.
 pub record DumpLeaves (bench : BenchCall) (out : SinkCall) (answer : Answer) : Type 0 where
   pub prints : PrintsNothing out answer
   pub stands : StandsBehind bench answer
-  -- the job file is as it was, and a stop at any moment leaves no cells that one at entry might not have left
+  -- the job file is as it was, and a stop at any moment leaves no cells that a stop at the start might not have left
   pub file : FileStays bench.before bench.after
   pub count : bench.after.cell_count ≡ bench.before.cell_count
   pub stops : AddsNothing (cells_half bench.before) (cells_half bench.after)
 
 -- When each answer comes.
 
--- The bytes under the name are the text of a board of which this holds.
+-- The bytes under the name are the text of a board, and that board is as `Holds` says.
 pub record OnBoard (inputs : InputsCall) (name : List ℕ) (Holds : board.Shown → Type 0) : Type 0 where
   pub text : List ℕ
   pub file : IsFile inputs name text
@@ -53,19 +53,19 @@ pub record OnBoard (inputs : InputsCall) (name : List ℕ) (Holds : board.Shown 
   pub is_board : IsBoard text board
   pub holds : Holds board
 
--- The bytes under the name are the text of no board, for this reason.
+-- The bytes under the name aren't the text of a board, for this reason.
 pub record IsNoBoard (inputs : InputsCall) (name : List ℕ) (fault : BoardFault) : Type 0 where
   pub text : List ℕ
   pub file : IsFile inputs name text
   pub refuses : reading text ≡ Err fault
 
--- there are other than the board's number of cells
+-- the bench has another number of cells than the board
 pub record HasOtherCount (bench : BenchCall) (regions : List Region) (wanted found : ℕ) : Type 0 where
   pub wanted_is : wanted ≡ size_of regions
   pub found_is : found ≡ bench.before.cell_count
   pub unequal : wanted ≢ found
 
--- The text of the map of cells went to `out`. There are as many as the regions have, and where the bench tells its cells they are these.
+-- The text of the map of cells went to `out`. There are as many cells as the regions have. Where the bench tells its cells, they are these.
 pub record IsDumped (form : TextForm) (regions : List Region) (bench : BenchCall) (out : SinkCall) (answer : Answer) : Type 0 where
   pub cells : List ℕ
   pub bytes : All (λ byte. byte < 256) cells
@@ -75,7 +75,7 @@ pub record IsDumped (form : TextForm) (regions : List Region) (bench : BenchCall
   pub is_map : IsMapOfCells regions cells map
   pub prints : PrintsText out (text_in form map) answer
 
--- as many cells as the regions have, and this
+-- the bench has as many cells as the regions, and this holds
 pub record WithCells (regions : List Region) (bench : BenchCall) (Holds : Type 0) : Type 0 where
   pub count : size_of regions ≡ bench.before.cell_count
   pub holds : Holds
@@ -102,7 +102,7 @@ pub record IsDueForBoard (form : TextForm) (bench : BenchCall) (out : SinkCall) 
   pub dumped : (board : board.Shown) (map : List Run) → IsBoard text board → size_of board.regions ≡ bench.before.cell_count → IsTrue bench.tells
       → IsMapOfCells board.regions bench.after.cells map → PrintsText out (text_in form map) answer
 
--- Which refusals `dump` has.
+-- Which refusals `dump` can answer.
 abbrev pub has_dump : Refusal → Bool
 has_dump out_of_memory = true
 has_dump (input_fault name) = true
@@ -112,7 +112,7 @@ has_dump device_fault = true
 has_dump output_fault = true
 has_dump _ = false
 
--- The work of `dump`: all but the status and the line on `err`.
+-- What `dump` does, except for the status and the line on `err`.
 pub record DumpEnds (form : TextForm) (name : List ℕ) (bench : BenchCall) (inputs : InputsCall) (out : SinkCall) (answer : Answer) : Type 0 where
   pub lawful : EndsLawfully on_files bench inputs out has_dump (name ∷ []) answer
   pub leaves : DumpLeaves bench out answer

@@ -9,17 +9,17 @@ use Rattle.report_text.specs.Refusal.{output_fault}
 use Rattle.command_files.specs.Call.{BenchCall, SinkCall, Answer, done, refused}
 use Rattle.command_files.specs.Said.{TookNothing}
 
--- an operation open at entry was broken off: none is open, and the cells outside its range are as they were
+-- an operation that was open at the start was broken off: none is open, and the cells outside its range are as they were
 pub record IsBrokenOff (bench : BenchCall) : Type 0 where
   pub idle : IsTrue bench.tells → bench.after.operation ≡ None
   pub outside : IsTrue bench.tells → SameOutside bench.before.operation bench.before.cells bench.after.cells
 
--- the cells are as they were, and an operation open at entry is still open
+-- the cells are as they were, and an operation that was open at the start still is
 pub record IsStillOpen (bench : BenchCall) : Type 0 where
   pub operation : IsTrue bench.tells → bench.after.operation ≡ bench.before.operation
   pub cells : IsTrue bench.tells → bench.after.cells ≡ bench.before.cells
 
--- An operation was broken off, and the cells were read.
+-- The cells are read, and an operation that was open is broken off first. On a fault it may still be open.
 pub record LooksAtCells {A : Type 0} (bench : BenchCall) (result : Result A DeviceFault) : Type 0 where
   pub ok : OnOk result (IsBrokenOff bench)
   pub err : OnErr result (IsBrokenOff bench ⊎ IsStillOpen bench)
@@ -30,7 +30,7 @@ pub record LooksAtCells {A : Type 0} (bench : BenchCall) (result : Result A Devi
 
 -- What goes to `out`.
 
--- with every answer but these two nothing is printed
+-- nothing is printed, except with the answers `done` and `output_fault`
 abbrev pub PrintsNothing : SinkCall → Answer → Type 0
 PrintsNothing out done = Unit {0}
 PrintsNothing out (refused output_fault) = Unit {0}

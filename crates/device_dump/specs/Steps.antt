@@ -12,7 +12,7 @@ use Rattle.command_files.specs.Answered.{device, output, IsCounted}
 use Rattle.device_dump.specs.CellMaps.{IsMapOfCells}
 use Rattle.device_dump.specs.Dump.{text_in, DumpLeaves, IsDumped}
 
--- there is no memory, the device fails, or the text goes to `out`
+-- how a dump ends: out of memory, by a fault of the device, or with the text put to `out`
 abbrev pub Dumped : TextForm → List Region → BenchCall → SinkCall → Answer → Type 0
 Dumped form regions bench out done = IsDumped form regions bench out done
 Dumped form regions bench out (refused output_fault) = IsDumped form regions bench out (refused output_fault)
@@ -34,7 +34,7 @@ pub record IsPut (form : TextForm) (regions : List Region) (cells : List ℕ) (o
   pub is_map : IsMapOfCells regions cells map
   pub prints : PrintsText out (text_in form map) answer
 
--- or there is no memory for the map
+-- the text of the map goes to `out`, or there is no memory for the map
 abbrev pub PutsCells : TextForm → List Region → List ℕ → SinkCall → Answer → Type 0
 PutsCells form regions cells out done = IsPut form regions cells out done
 PutsCells form regions cells out (refused output_fault) = IsPut form regions cells out (refused output_fault)

@@ -1,4 +1,4 @@
-//! The law on dumps, which no body is needed for.
+//! The law on dumps, which needs no body.
 ghost use Rattle.std.specs.Prelude.{◌≡◌, ◌<◌, ℕ, List, None};
 ghost use Rattle.std.specs.List.{All};
 ghost use Rattle.board_file.specs.declared.region.Region.{Region};

@@ -21,8 +21,8 @@ use outside_io::{Inputs, OutputFault, Sink};
 use report_text::Refusal;
 use std::alloc::Global;
 
-/// Puts every cell at its address as a text of this form. All cells are read before anything is put. It takes a byte of memory
-/// for each cell, and as much again for their map. The job file isn't looked at.
+/// Puts every cell at its address as a text of this form. All cells are read before anything is put. It takes one byte of memory
+/// for each cell, and as much again for their map. The job file isn't read.
 pub fn dump<'a, B: Bench, I: Inputs, O: Sink>(
     alloc: Global,
     form: TextForm,
@@ -45,7 +45,7 @@ pub fn dump<'a, B: Bench, I: Inputs, O: Sink>(
     dump_cells(alloc, form, &board, bench, out)
 }
 
-/// Puts as many cells as the regions of a board have. The memory for the cells is taken before they are looked at.
+/// Puts the cells, if there are as many as the regions of a board have. The memory for them is taken before they are read.
 fn dump_cells<'a, B: Bench, O: Sink>(
     alloc: Global,
     form: TextForm,

@@ -54,13 +54,13 @@ pub rest_in_range : (operation : Option (ℕ × ℕ)) (at n done m : ℕ) → do
 rest_in_range None at n done m le inside = inside
 rest_in_range (Some range) at n done m le inside = (omega (arith, inside.0), omega (arith, inside.1, le))
 
--- a piece that lies in the open range, told in other words
+-- a piece that lies in the open range does so by equal numbers
 pub piece_in_range : {now was : Option (ℕ × ℕ)} {place at m n : ℕ} → now ≡ was → place ≡ at → m ≡ n → InRange at n was → InRange place m now
 piece_in_range {now = now} {was = was} {place = place} {at = at} {m = m} {n = n} same here long inside =
     subst (λ (o : Option (ℕ × ℕ)). InRange place m o) (sym same)
     (subst (λ (k : ℕ). InRange k m was) (sym here) (subst (λ (k : ℕ). InRange at k was) (sym long) inside))
 
--- so many bytes of a write stand there, and in the rest of its range any may
+-- the first `done` bytes of a write to the cells are in place, and the rest of its range may hold anything
 pub record IsPutTo (tells : Bool) (old new : DiskState) (at : ℕ) (bytes : List ℕ) (done : ℕ) : Type 0 where
   pub within : done ≤ length bytes
   pub some : IsTrue tells → take (at + done) new.bytes ≡ take at old.bytes ++ take done bytes

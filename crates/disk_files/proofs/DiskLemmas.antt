@@ -66,7 +66,7 @@ range_written at n cells x part out inside is =
     ∙ ap (λ (l : List ℕ). l ++ drop (at + n) x) (sym (take-add at n x))
     ∙ take-append-drop (at + n) x
 
--- the same of what is remembered of a disk in memory
+-- the cells of a disk in memory still differ only inside the open range after a write that was torn there
 pub differs_then : (operation : Option (ℕ × ℕ)) (cells x y : List ℕ) (at n : ℕ) → InRange at n operation → DiffersInside operation cells x → Torn at n x y
     → length y ≡ length x → DiffersInside operation cells y
 differs_then operation cells x y at n inside out torn long =

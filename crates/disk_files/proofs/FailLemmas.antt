@@ -8,7 +8,7 @@ use Rattle.std.specs.IoError.{error_kind}
 use Rattle.std.specs.declared.io.Error.{Error}
 use Rattle.std.specs.declared.io.ErrorKind.TheVariants.{Interrupted}
 
--- no call has failed so far, and so many were interrupted
+-- no call has failed so far, and at least `count` of them were interrupted
 pub record GoesSo (tells : Bool) (old now : DiskState) (count : ℕ) : Type 0 where
   pub errors : IsTrue tells → now.errors ≡ old.errors
   pub stops : IsTrue tells → count ≤ now.interrupted
@@ -39,7 +39,7 @@ goes_stopped so_far call syncs = record {
   syncs = λ told. keeps_then (so_far.syncs told) (syncs told);
 }
 
--- the same of several calls
+-- no call has failed after several more calls that went through
 pub goes_whole : {T E : Type 0} {tells : Bool} {old mid new : DiskState} (result : Result T E) → GoesSo tells old mid 0 →
     (IsTrue tells → Fails mid new result) → IsOk result
     → GoesSo tells old new 0
@@ -59,7 +59,7 @@ not_both : {T E : Type 0} (r : Result T E) → IsErr r → IsOk r → ⊥
 not_both (Ok x) failed went = false≢true failed
 not_both (Err e) failed went = false≢true went
 
--- calls of which the last fails, and the answer made of that
+-- an answer that is a failure, because the last of several calls failed
 pub fails_then : {T E U G : Type 0} {tells : Bool} {a b c : DiskState} {count : ℕ} → IsTrue tells → GoesSo tells a b count →
     (result : Result T E) → Fails b c result
     → IsErr result → (answer : Result U G) → IsErr answer → Fails a c answer
@@ -72,7 +72,7 @@ fails_then {a = a} {b = b} {c = c} told so_far result two is_err answer failed =
   on_ok = λ went. absurd (not_both answer failed went);
 }
 
--- calls of which the last fails for good, and the answer made of that
+-- an answer that is a failure, because the last of several calls failed for good
 pub fails_at_last : {T E : Type 0} {tells : Bool} {a b c : DiskState} {stops wanted : ℕ} {fault : Error} → IsTrue tells → GoesSo tells a b stops
     → CallMoves b c wanted (Err fault) → (error_kind fault ≡ Interrupted → ⊥) → (answer : Result T E) → IsErr answer → Fails a c answer
 fails_at_last {a = a} {b = b} {c = c} told so_far call for_good answer failed = record {
@@ -81,7 +81,7 @@ fails_at_last {a = a} {b = b} {c = c} told so_far call for_good answer failed = 
   on_ok = λ went. absurd (not_both answer failed went);
 }
 
--- calls of which the last moved nothing, and the answer made of that
+-- an answer that is a failure, because the last of several calls moved nothing
 pub fails_at_none : {T E : Type 0} {tells : Bool} {a b c : DiskState} {stops wanted : ℕ} → IsTrue tells → GoesSo tells a b stops
     → (moved : Result ℕ Error) (n : ℕ) → moved ≡ Ok n → n ≡ 0 → CallMoves b c wanted moved → 0 < wanted → (answer : Result T E) → IsErr answer
     → Fails a c answer
@@ -93,7 +93,7 @@ fails_at_none {a = a} {b = b} {c = c} {wanted = wanted} told so_far moved n is n
       on_ok = λ ok. absurd (not_both answer failed ok);
     }
 
--- a call told in other words
+-- a call stated with equal states and lengths
 pub moves_from : {a b c : DiskState} {n m : ℕ} {result : Result ℕ Error} → a ≡ b → n ≡ m → CallMoves a c n result → CallMoves b c m result
 moves_from {b = b} {c = c} {n = n} {result = result} same long call =
     subst (λ (k : ℕ). CallMoves b c k result) long (subst (λ (d : DiskState). CallMoves d c n result) same call)

@@ -1,4 +1,4 @@
--- A buffer that is filled from a list in several pieces: what it has in common with the list behind one more piece.
+-- A buffer that is filled from a list in several pieces: how far it equals the list after one more piece.
 use Rattle.std.proofs.Common.{◌≡◌, ◌≤◌, ◌+◌, ◌-◌, ◌∙◌, ap, sym, refl, ℕ, List, ◌++◌, length, take, drop, arith, append_assoc, length-take, length-drop}
 use Rattle.std.proofs.Common.{length-append}
 use Rattle.std.proofs.Math.Seq.{take-add}

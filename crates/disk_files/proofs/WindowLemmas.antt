@@ -42,7 +42,7 @@ laid i L part xs inside long =
     ∙ ap (λ (n : ℕ). (take i xs ++ part) ++ drop k (take n xs)) whole
     ∙ ap (λ (l : List ℕ). (l ++ part) ++ drop k (take L xs)) (sym (take-take i L xs front))
 
--- the same of a row that begins further on
+-- a row written at a later place, seen from an earlier one
 moved : (at i : ℕ) (part held : List ℕ) → at + i ≤ length held → drop at (written (at + i) part held) ≡ written i part (drop at held)
 moved at i part held inside =
     let A = take at held in

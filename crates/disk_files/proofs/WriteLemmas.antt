@@ -25,7 +25,7 @@ torn_then at n at' n' d e f from to one two =
       no_longer = omega (arith, one.no_longer, two.no_longer, to);
     }
 
--- ---- a list of which so many bytes are written from a place on
+-- ---- a list with its first `done` bytes written from a place on
 
 pub stand_none : (at : ℕ) (bytes old : List ℕ) → take (at + 0) old ≡ take at old ++ take 0 bytes
 stand_none at bytes old = let e : at + 0 ≡ at = omega arith in ap (λ (m : ℕ). take m old) e ∙ sym (append-nil (take at old))
@@ -89,7 +89,7 @@ cells_as_were_then one two = record {
   half = stays_then one.half two.half;
 }
 
--- so many bytes of a write stand there, and in the rest of its range any may
+-- the first `done` bytes of a write to the job file are in place, and the rest of its range may hold anything
 pub record IsWrittenTo (tells : Bool) (old new : DiskState) (at : ℕ) (bytes : List ℕ) (done : ℕ) : Type 0 where
   pub within : done ≤ length bytes
   pub some : IsTrue tells → take (at + done) new.file ≡ take at old.file ++ take done bytes

@@ -9,19 +9,19 @@ pub record DiskState : Type 1 where
   pub entry : Bool
   -- the bytes that a read of the cells file gives
   pub bytes : List ℕ
-  -- the cells as when the range was opened in which they may now be written, and that range
+  -- the range of cells that may now be written, if one is open, and the cells as they were when it was opened
   pub cells : List ℕ
   pub operation : Option (ℕ × ℕ)
-  -- whether cells may have been written and not synced, and whether that may be since an earlier run
+  -- whether cells may have been written and not synced, and whether that may have been in an earlier run
   pub unsynced : Bool
   pub earlier : Bool
-  -- how many calls have failed, and how many more did nothing but be interrupted by a signal
+  -- how many calls have failed, and how many others a signal interrupted, so that they did nothing
   pub errors : ℕ
   pub interrupted : ℕ
-  -- whether each sync of the job file and of its folder so far went through, and each of the cells
+  -- whether each sync of the job file and its folder has gone through so far, and each sync of the cells file
   pub file_whole : Bool
   pub cells_whole : Bool
-  -- the moment, and what a stop may leave at each moment up to it
+  -- the current moment, and what a stop may leave at each moment up to it
   pub moment : ℕ
   pub files_at : ℕ → List ℕ → Type 0
   pub cells_at : ℕ → List ℕ → Type 0
@@ -32,14 +32,14 @@ job_half d = record { now = d.moment; at = d.files_at }
 abbrev pub range_half : DiskState → Half
 range_half d = record { now = d.moment; at = d.cells_at }
 
--- the job file's half is as it was, at each moment
+-- the state of the job file is as it was, at each moment
 pub record JobAsWas (old new : DiskState) : Type 0 where
   pub file : new.file ≡ old.file
   pub entry : new.entry ≡ old.entry
   pub whole : new.file_whole ≡ old.file_whole
   pub half : Stays (job_half old) (job_half new)
 
--- the cells' half is as it was, at each moment
+-- the state of the cells is as it was, at each moment
 pub record CellsAsWere (old new : DiskState) : Type 0 where
   pub bytes : new.bytes ≡ old.bytes
   pub cells : new.cells ≡ old.cells
@@ -49,7 +49,7 @@ pub record CellsAsWere (old new : DiskState) : Type 0 where
   pub whole : new.cells_whole ≡ old.cells_whole
   pub half : Stays (range_half old) (range_half new)
 
--- what a bench over these files means
+-- the state of a bench over these files
 abbrev pub over : DiskState → (cell_count store_faults device_faults : ℕ) → BenchState
 over d cell_count store_faults device_faults = record {
   file = d.file;
@@ -63,7 +63,7 @@ over d cell_count store_faults device_faults = record {
   cells_at = d.cells_at;
 }
 
--- What a disk means whose job file and cells are those of a bench, with the bytes that a read of the cells gives and a count of its errors.
+-- The state of a disk with the job file and the cells of a bench, these bytes of the cells file, and this count of errors.
 -- None of its calls is interrupted, and no sync of its cells fails.
 abbrev pub disk_over : BenchState → Bool → List ℕ → Bool → Bool → ℕ → Bool → DiskState
 disk_over b entry bytes unsynced earlier errors file_whole = record {

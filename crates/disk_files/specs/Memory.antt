@@ -4,7 +4,7 @@ use Rattle.std.specs.Option.{ForSome}
 use Rattle.std.proofs.Common.{subst, sym, refl}
 use Rattle.bench_model.specs.State.{SameOutside}
 
--- these bytes are those cells, but for the range of an operation
+-- the bytes of a disk in memory are its cells, except in the range of an operation
 pub record DiffersInside (operation : Option (ℕ × ℕ)) (cells bytes : List ℕ) : Type 0 where
   pub idle : operation ≡ None → bytes ≡ cells
   pub within : ForSome operation (λ range. (length bytes ≡ length cells) × (take range.0 bytes ≡ take range.0 cells)

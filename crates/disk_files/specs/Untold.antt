@@ -1,4 +1,4 @@
--- What files mean that tell nothing.
+-- The state of files that tell nothing of their contents.
 use Rattle.std.specs.Prelude.{[], None, true, false}
 use Rattle.disk_files.specs.DiskState.{DiskState}
 

@@ -13,7 +13,7 @@ use std::io::ErrorKind;
 /// How many cells are filled at a time.
 const CHUNK: usize = 4096;
 
-/// Brings the cells to the disk, where no sync of them has failed.
+/// Syncs the cells to the disk, unless an earlier sync of them has failed.
 fn sync_cells<F: Disk>(disk: &mut F, cells: &mut CellsSyncs) -> io::Result<()>
     requires pending { IsTrue F.tells → cells.old.pending ≡ false → (F.state disk.old).unsynced ≡ false }
     requires fresh { IsTrue F.tells → cells.old.fresh ≡ false → (F.state disk.old).earlier ≡ false }
@@ -39,7 +39,7 @@ fn sync_cells<F: Disk>(disk: &mut F, cells: &mut CellsSyncs) -> io::Result<()>
     Ok(())
 }
 
-/// Brings the cells to the disk that may have been written.
+/// Syncs the cells to the disk, if some may have been written.
 pub fn sync_pending<F: Disk>(disk: &mut F, cells: &mut CellsSyncs) -> io::Result<()>
     requires pending { IsTrue F.tells → cells.old.pending ≡ false → (F.state disk.old).unsynced ≡ false }
     requires fresh { IsTrue F.tells → cells.old.fresh ≡ false → (F.state disk.old).earlier ≡ false }
@@ -59,7 +59,7 @@ pub fn sync_pending<F: Disk>(disk: &mut F, cells: &mut CellsSyncs) -> io::Result
     Ok(())
 }
 
-/// Brings the cells to the disk that an earlier run may have left.
+/// Syncs the cells to the disk, if an earlier run may have left some unsynced.
 pub fn sync_earlier<F: Disk>(disk: &mut F, cells: &mut CellsSyncs) -> io::Result<()>
     requires pending { IsTrue F.tells → cells.old.pending ≡ false → (F.state disk.old).unsynced ≡ false }
     requires fresh { IsTrue F.tells → cells.old.fresh ≡ false → (F.state disk.old).earlier ≡ false }
@@ -106,7 +106,7 @@ pub fn ready_to_change<F: Disk>(
     sync_pending(disk, cells)
 }
 
-/// Writes all bytes, in the open range.
+/// Writes all bytes, within the open range.
 pub fn write_range<F: Disk>(disk: &mut F, at: u64, bytes: &[u8]) -> io::Result<()>
     requires { IsTrue F.tells → InRange at (length bytes.now) (F.state disk.old).operation }
     ensures ok { IsTrue F.tells → OnOk result ((F.state disk.new).bytes ≡ written at bytes.now (F.state disk.old).bytes) }

@@ -10,27 +10,26 @@ ghost use Rattle.disk_files.specs.DiskDoes.{ReadsBytes, OpensRange, ClosesRange,
 
 use std::io;
 
-/// A job file and a cells file. Offsets and lengths are in bytes, of which one is a cell.
+/// A job file and a cells file. Offsets and lengths are in bytes, and each cell is one byte.
 ///
-/// Each call may fail, and counts that. What it may leave then is said by its clauses as well. A read or a write that a signal interrupted is
-/// no error: it can be made again. One that answers that it moved none of some bytes is one, as at the end of a file that others have cut. Once a
-/// sync has failed no later one of the same file brings anything to the disk for sure. The job
-/// file's entry in its folder has to be
-/// on the disk before any other call on it than `job_open` and `folder_sync`.
+/// A call may fail, and each failure is counted. The clauses also say what a failed call may leave. A read or a write that a signal
+/// interrupted is no error: it can be made again. A call that was to move bytes and moved none is an error, as at the end of a
+/// file that another program has cut. Once a sync of a file has failed, no later sync of it is sure to reach the disk.
+/// The job file's entry in its folder must be on the disk before any call on the file but `job_open` and `folder_sync`.
 pub trait Disk {
-    /// Whether it tells its contents.
+    /// Whether contracts see the contents of the files.
     ghost tells: { Bool };
 
-    /// What it means.
+    /// The state of the files.
     ghost state: { Self → DiskState };
 
-    /// Opens the job file, or makes it where it is missing.
+    /// Opens the job file, or makes it if it is missing.
     fn job_open(&mut self) -> io::Result<()>
         ensures entry { IsTrue tells → (state self.new).entry ≡ (state self.old).entry }
         ensures does { OnlyReadsJob tells (state self.old) (state self.new) }
         ensures fails { IsTrue tells → CallEnds (state self.old) (state self.new) result };
 
-    /// Brings the entry of the job file to the disk, in the folder in which it stands.
+    /// Syncs the folder of the job file, so that the file's entry is on the disk.
     fn folder_sync(&mut self) -> io::Result<()>
         ensures does { SyncsFolder tells (state self.old) (state self.new) result }
         ensures fails { IsTrue tells → FileSyncEnds (state self.old) (state self.new) result };
@@ -51,7 +50,7 @@ pub trait Disk {
         ensures does { OnlyReadsJob tells (state self.old) (state self.new) }
         ensures fails { IsTrue tells → CallMoves (state self.old) (state self.new) (length out.old) result };
 
-    /// Writes some bytes of the job file, while no cell is written and not synced.
+    /// Writes some bytes of the job file. No cell may be written and not synced.
     fn job_write_at(&mut self, at: u64, bytes: &[u8]) -> io::Result<usize>
         requires entry { IsTrue tells → (state self.old).entry ≡ true }
         requires at { IsTrue tells → at ≤ length (state self.old).file }
@@ -60,7 +59,7 @@ pub trait Disk {
         ensures does { WritesJob tells (state self.old) (state self.new) at (length bytes.now) }
         ensures fails { IsTrue tells → CallMoves (state self.old) (state self.new) (length bytes.now) result };
 
-    /// Cuts the job file, while no cell is written and not synced.
+    /// Cuts the job file. No cell may be written and not synced.
     fn job_set_len(&mut self, len: u64) -> io::Result<()>
         requires entry { IsTrue tells → (state self.old).entry ≡ true }
         requires len { IsTrue tells → len ≤ length (state self.old).file }
@@ -68,13 +67,13 @@ pub trait Disk {
         ensures does { SetsJobLength tells (state self.old) (state self.new) len result }
         ensures fails { IsTrue tells → CallEnds (state self.old) (state self.new) result };
 
-    /// Brings the job file's bytes to the disk.
+    /// Syncs the bytes of the job file to the disk.
     fn job_sync(&mut self) -> io::Result<()>
         requires { IsTrue tells → (state self.old).entry ≡ true }
         ensures does { SyncsJob tells (state self.old) (state self.new) result }
         ensures fails { IsTrue tells → FileSyncEnds (state self.old) (state self.new) result };
 
-    /// Brings the cells to the disk.
+    /// Syncs the cells to the disk.
     fn cells_sync(&mut self) -> io::Result<()>
         ensures does { SyncsBytes tells (state self.old) (state self.new) result }
         ensures fails { IsTrue tells → CellsSyncEnds (state self.old) (state self.new) result };
@@ -85,8 +84,8 @@ pub trait Disk {
         ensures does { ReadsBytes tells (state self.old) (state self.new) }
         ensures fails { IsTrue tells → CallMoves (state self.old) (state self.new) (length out.old) result };
 
-    /// Fills `out` with the cells from the place `at` on, where it has them all at hand and needn't call the host, and says so. Else `out`
-    /// stays as it was.
+    /// Fills `out` with the cells from the place `at` on and answers true, if it has them all without a call of the host. Otherwise `out`
+    /// is unchanged.
     fn cells_at_hand(&self, at: u64, out: &mut [u8]) -> bool
         ensures whole { IsTrue tells → IsTrue result → out.new ≡ take (length out.old) (drop at (state self.now).bytes) }
         ensures stays { result ≡ false → out.new ≡ out.old }
@@ -94,14 +93,14 @@ pub trait Disk {
         false
     }
 
-    /// Writes some of the cells, in the open range.
+    /// Writes some of the cells, within the open range.
     fn cells_write_at(&mut self, at: u64, bytes: &[u8]) -> io::Result<usize>
         requires { IsTrue tells → InRange at (length bytes.now) (state self.old).operation }
         ensures writes { WritesSome tells (state self.old).bytes (state self.new).bytes at bytes.now result }
         ensures does { WritesBytes tells (state self.old) (state self.new) }
         ensures fails { IsTrue tells → CallMoves (state self.old) (state self.new) (length bytes.now) result };
 
-    /// Says that the cells of a range may be written from now on.
+    /// Opens a range: its cells may be written from now on.
     fn open_range(&mut self, at: u32, len: u32) -> io::Result<()>
         requires idle { IsTrue tells → (state self.old).operation ≡ None }
         requires some { 0 < len }
@@ -109,31 +108,31 @@ pub trait Disk {
         ensures does { OpensRange tells (state self.old) (state self.new) at len result }
         ensures fails { IsTrue tells → CallEnds (state self.old) (state self.new) result };
 
-    /// Says that the range is written, and that no cell is from now on until another is opened.
+    /// Closes the open range: it is written, and no cell may be written until another range is opened.
     fn close_range(&mut self) -> io::Result<()>
         ensures does { ClosesRange tells (state self.old) (state self.new) result }
         ensures fails { IsTrue tells → CallEnds (state self.old) (state self.new) result };
 
-    /// Says the same of a range that may be written in part, or of none. What an earlier run left is on the disk by then.
+    /// Closes a range that may be written only in part, or none. What an earlier run left must be on the disk by then.
     fn break_range(&mut self) -> io::Result<()>
         requires { IsTrue tells → (state self.old).earlier ≡ false }
         ensures does { ClosesRange tells (state self.old) (state self.new) result }
         ensures fails { IsTrue tells → CallEnds (state self.old) (state self.new) result };
 
-    /// The job file as read is among those that a stop may leave.
+    /// The job file as it is read is among those that a stop may leave.
     ghost as_read: { (disk : Self) → IsTrue tells → left (job_half (state disk)) (state disk).file };
 
-    /// A stop leaves the cells with any bytes in the open range, and any such cells.
+    /// A stop may leave any bytes in the open range, and the cells unchanged outside it.
     ghost as_told: { (disk : Self) (cells : List ℕ) → IsTrue tells
         → left (range_half (state disk)) cells ↔ SameOutside (state disk).operation (state disk).cells cells };
 
-    /// The job file is a list of bytes, and so are the cells.
+    /// The job file and the cells are lists of bytes.
     ghost bytes: { (disk : Self) → IsTrue tells → All (λ byte. byte < 256) (state disk).file × All (λ byte. byte < 256) (state disk).cells };
 
-    /// What stands there differs from the cells in the open range alone.
+    /// The bytes of the cells file differ from the cells only in the open range.
     ghost outside: { (disk : Self) → IsTrue tells → SameOutside (state disk).operation (state disk).cells (state disk).bytes };
 
-    /// The open range has at least one cell, and lies in the cells.
+    /// The open range has at least one cell, and is within the cells.
     ghost inside: { (disk : Self) → IsTrue tells
         → ForSome (state disk).operation (λ range. (0 < range.1) × (range.0 + range.1 ≤ length (state disk).cells)) };
 

@@ -10,10 +10,10 @@ use faults::FaultCount;
 
 /// A bench over the files of a host.
 ///
-/// The job file's entry is brought to the disk before anything else is asked of the file. Before the job file is changed
-/// the cells that may have been written are synced: so a host that loses power never has the later job file with the
-/// earlier cells. The cells that an earlier run left are synced at the first break-off. Once a sync has failed none of the same file goes
-/// through, and a call fails only where a call of the files failed, or a sync of them had.
+/// The job file's entry is synced before any other call on the file. Before the job file is changed, cells that may have been
+/// written are synced: so a loss of power never leaves the later job file with the earlier cells. The cells that an earlier run
+/// left are synced at the first break-off. Once a sync of a file has failed, all later syncs of it fail. A call fails only where
+/// a call of the files failed, or an earlier sync did.
 #[derive(Drop)]
 pub struct DiskBench<F: Disk> {
     disk: F,
@@ -41,7 +41,7 @@ impl<F: Disk> DiskBench<F> {
     ghost use Rattle.disk_files.specs.DiskState.{over};
     ghost use Rattle.disk_files.specs.Fails.{Fails};
 
-    /// A bench over these files, of which nothing is taken to be on the disk.
+    /// A bench over these files. Nothing is assumed to be on the disk.
     pub fn new(disk: F, cell_count: u32) -> DiskBench<F>
         requires many { IsTrue F.tells → length (F.state disk).cells ≡ cell_count }
         requires idle { IsTrue F.tells → (F.state disk).operation ≡ None }

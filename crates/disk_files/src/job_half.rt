@@ -1,4 +1,4 @@
-//! The job file: opened with its entry on the disk, read and written whole in as many calls as it takes.
+//! The job file: opened with its entry on the disk, and read and written whole by as many calls as that takes.
 ghost use Rattle.std.specs.Prelude.{◌≡◌, ◌≤◌, ◌<◌, ◌+◌, ◌^◌, length, take, drop, IsTrue, true, false, OnOk, IfOk};
 ghost use Rattle.bench_model.specs.History.{Leaves, LeftOnly};
 ghost use Rattle.bench_model.specs.Calls.{written, Torn, Follows};
@@ -11,7 +11,7 @@ use crate::syncs::JobSyncs;
 use std::io;
 use std::io::ErrorKind;
 
-/// Opens the job file, and brings its entry to the disk, where that wasn't done yet. Once a sync of either has failed, it can't.
+/// Opens the job file and syncs its entry, unless that was done already. It fails once a sync of the file or its folder has failed.
 pub fn open_job<F: Disk>(disk: &mut F, job: &mut JobSyncs) -> io::Result<()>
     requires durable { IsTrue F.tells → job.old.entry ≡ true → (F.state disk.old).entry ≡ true }
     requires whole { IsTrue F.tells → job.old.failed ≡ false → (F.state disk.old).file_whole ≡ true }
@@ -128,7 +128,7 @@ pub fn read_all<F: Disk>(disk: &mut F, at: u64, out: &mut [u8]) -> io::Result<()
     Ok(())
 }
 
-/// Brings the job file and its entry to the disk. Once a sync of either has failed, it always does.
+/// Syncs the job file and its entry. It fails once a sync of either has failed.
 pub fn sync_job<F: Disk>(disk: &mut F, job: &mut JobSyncs) -> io::Result<()>
     requires durable { IsTrue F.tells → job.old.entry ≡ true → (F.state disk.old).entry ≡ true }
     requires whole { IsTrue F.tells → job.old.failed ≡ false → (F.state disk.old).file_whole ≡ true }

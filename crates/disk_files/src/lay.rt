@@ -1,8 +1,8 @@
-//! Bytes laid over others.
+//! Bytes copied over others.
 ghost use Rattle.std.specs.Prelude.{◌≡◌, ◌≤◌, ◌+◌, length, vec_len};
 ghost use Rattle.bench_model.specs.Calls.{written};
 
-/// Lays bytes over others.
+/// Copies bytes over others.
 fn overlay(old: &mut [u8], at: usize, bytes: &[u8])
     requires { at + length bytes.now ≤ length old.old }
     ensures { old.new ≡ written at bytes.now old.old }
@@ -10,7 +10,7 @@ fn overlay(old: &mut [u8], at: usize, bytes: &[u8])
     old[at..at + bytes.len()].copy_from_slice(bytes);
 }
 
-/// Lays bytes over cells.
+/// Copies bytes over cells.
 pub fn settle(cells: &mut Vec<u8>, at: usize, bytes: &[u8])
     requires { at + length bytes.now ≤ vec_len cells.old }
     ensures items { cells.new.items ≡ written at bytes.now cells.old.items }

@@ -1,4 +1,4 @@
-//! A bench over the files of a host, which one small trait stands for.
+//! A bench over the files of a host. A small trait stands for these files.
 #![tactic(auto)]
 
 mod cells_half;

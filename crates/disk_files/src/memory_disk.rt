@@ -13,9 +13,9 @@ use faults::FaultCount;
 use std::io;
 use std::io::ErrorKind;
 
-/// A disk whose job file and cells are those of a bench, as one in memory. It tells its contents where the bench does.
+/// A disk with the job file and the cells of a bench. It tells its contents where the bench does.
 ///
-/// The cells are written in the bench where a range is closed. Until then the bytes that were written stand beside it.
+/// The cells are written in the bench when a range is closed. Until then the written bytes are kept apart.
 #[derive(Drop)]
 pub struct MemoryDisk<B: Bench> {
     bench: B,
@@ -34,8 +34,8 @@ pub struct MemoryDisk<B: Bench> {
 }
 
 impl<B: Bench> MemoryDisk<B> {
-    /// The disk of a bench with these cells, on which no operation is open. Its job file's entry isn't on the disk, and an
-    /// earlier run may have left cells.
+    /// The disk of a bench with these cells, with no open operation. The entry of its job file isn't on the disk, and an
+    /// earlier run may have left unsynced cells.
     pub fn new(bench: B, bytes: Vec<u8>) -> MemoryDisk<B>
         requires count { vec_len bytes ≡ (B.state bench).cell_count }
         requires cells { IsTrue B.tells → bytes.items ≡ (B.state bench).cells }
@@ -61,7 +61,7 @@ impl<B: Bench> MemoryDisk<B> {
         }
     }
 
-    /// Puts the bytes of an open range into the bench.
+    /// Writes the bytes of an open range into the bench.
     fn end_range(&mut self) -> io::Result<()>
         ensures does { ClosesRange B.tells (disk_over (B.state self.old.bench) self.old.entry self.old.bytes.items self.old.unsynced self.old.earlier
             self.old.errors self.old.file_whole)

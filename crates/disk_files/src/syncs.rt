@@ -2,14 +2,14 @@
 
 /// Whether the job file is open with its entry on the disk, and whether a sync of it or of its folder has failed.
 ///
-/// The system may drop what it could not write, and let a later sync succeed all the same. So once one has failed none is asked for again.
+/// The system may drop what it could not write, and still let a later sync succeed. So after a failed sync no other is asked for.
 #[derive(Clone, Copy)]
 pub struct JobSyncs {
     pub entry: bool,
     pub failed: bool,
 }
 
-/// Whether cells may have been written since they were last synced, whether they never were in this run, and whether a sync of them has failed.
+/// Whether cells may have been written since they were last synced, whether none was synced in this run yet, and whether a sync of them failed.
 #[derive(Clone, Copy)]
 pub struct CellsSyncs {
     pub pending: bool,

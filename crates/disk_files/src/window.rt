@@ -9,7 +9,7 @@ use std::alloc::Global;
 /// The most cells that a window has.
 pub const WINDOW: usize = 4096;
 
-/// A copy of cells that stand in a row: the first `len` bytes are those from the place `at` on.
+/// A copy of consecutive cells: the first `len` bytes are those from the place `at` on.
 #[derive(Drop)]
 pub struct Window {
     pub at: u64,
@@ -19,7 +19,7 @@ pub struct Window {
 }
 
 impl Window {
-    /// A window with no cells. Where there is no memory for it, it never gets any.
+    /// A window with no cells. If memory runs out here, it never gets any.
     pub fn new(alloc: Global) -> Window
         ensures { result.len ≡ 0 }
     {
@@ -41,7 +41,7 @@ impl Window {
         self.len = 0;
     }
 
-    /// Where its cells from the place `at` on stand in it, if it has `count` of them.
+    /// The index in the window of its cells from the place `at` on, if it has `count` of them.
     #[inline(always)]
     fn index(&self, at: u64, count: usize) -> Option<usize>
         ensures within { IfSome result (λ index. index + count ≤ self.now.len) }
@@ -54,7 +54,7 @@ impl Window {
         Some(skip as usize)
     }
 
-    /// Fills `out` with the cells from the place `at` on, and says whether it has them all. Else `out` stays.
+    /// Fills `out` with the cells from the place `at` on, if the window has them all, and answers whether it does. Otherwise `out` is unchanged.
     #[inline(always)]
     pub fn copy(&self, at: u64, out: &mut [u8]) -> bool
         ensures whole { (held : List ℕ) → IsCopy self.now.at self.now.len self.now.bytes.items held → IsTrue result
@@ -70,7 +70,7 @@ impl Window {
         }
     }
 
-    /// Follows a write of these bytes from the place `at` on. Where it doesn't have all these cells, it drops its own.
+    /// Follows a write of these bytes from the place `at` on. If the window doesn't have all these cells, it drops its own.
     pub fn follow(&mut self, at: u64, bytes: &[u8])
         ensures { (n : ℕ) (old new : List ℕ) → n ≡ length bytes.now → IsCopy self.old.at self.old.len self.old.bytes.items old
             → take (at + n) new ≡ take at old ++ take n bytes.now → Torn at (length bytes.now) old new

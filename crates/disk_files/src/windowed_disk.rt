@@ -9,8 +9,8 @@ use crate::window::{WINDOW, Window};
 use std::alloc::Global;
 use std::io;
 
-/// A disk whose cells are read through a window of those that were read last, so that few loads of a single cell call the system. Each
-/// write goes to the disk at once. The window is dropped where a call on the cells fails, at each break-off and at each sync.
+/// A disk whose cells are read through a window of those that were read last, so that few loads of single cells call the system. Each
+/// write goes to the disk at once. The window is dropped if a call on the cells fails, at each break-off and at each sync.
 #[derive(Drop)]
 pub struct WindowedDisk<F: Disk> {
     disk: F,
@@ -37,7 +37,7 @@ impl<F: Disk> WindowedDisk<F> {
         disk
     }
 
-    /// Reads ahead, once: its cells are then those round the place `at`, with `count` from there on where these have room in it, as far as
+    /// Reads ahead, once. The window then has the cells round the place `at`, with `count` of them from there on if they fit in, as far as
     /// the disk gives them.
     fn fill(&mut self, at: u64, count: usize) -> io::Result<usize>
         ensures reads { ReadsBytes F.tells (F.state self.old.disk) (F.state self.new.disk) }

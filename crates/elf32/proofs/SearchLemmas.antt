@@ -23,7 +23,7 @@ pub first_below-more : (p : ℕ → Bool) (n : ℕ) → first_below p (n + 1) �
 unfolding first_below
 first_below-more p n = rw (range_more n) (find-append p (range_with_len 0 n) (n ∷ []))
 
--- below 0 there is none
+-- below 0 there is no number
 pub first_below-zero : (p : ℕ → Bool) → first_below p 0 ≡ None
 unfolding first_below
 first_below-zero p = refl
@@ -36,7 +36,7 @@ first_below-none p n before here = rw (first_below-more p n, before, here) refl
 pub first_below-here : (p : ℕ → Bool) (n : ℕ) → first_below p n ≡ None → p n ≡ true → first_below p (n + 1) ≡ Some n
 first_below-here p n before here = rw (first_below-more p n, before, here) refl
 
--- and stays the first
+-- the first number that passes below n is also the first below n + 1
 pub first_below-stays : (p : ℕ → Bool) (n i : ℕ) → first_below p n ≡ Some i → first_below p (n + 1) ≡ Some i
 first_below-stays p n i found = rw (first_below-more p n, found) refl
 
@@ -52,7 +52,7 @@ first_below-first p n i inside before here =
     let e : i + 1 + (n - (i + 1)) ≡ n = omega arith in
     rw e at (first_below-later p (i + 1) i (n - (i + 1)) (first_below-here p i before here))
 
--- and is the first among more numbers
+-- the first number that passes below m is also the first below a greater n
 pub first_below-among : (p : ℕ → Bool) (m n i : ℕ) → m ≤ n → first_below p m ≡ Some i → first_below p n ≡ Some i
 first_below-among p m n i within found =
     let e : m + (n - m) ≡ n = omega arith in rw e at (first_below-later p m i (n - m) found)

@@ -68,7 +68,7 @@ ends_before table ended at ends before = ⊎_elim
     let no : true ≡ false = rw zero_byte at other in cc)
     (cases_lt (position_or_len is_zero (drop at table)) (length (drop at table)))
 
--- and nowhere else
+-- no string begins at or after the end of the last zero byte of its table
 pub none_behind : (table : List ℕ) (ended at : ℕ) → EndsAt table ended → ended ≤ at → string_at table at ≡ None
 unfolding string_at
 none_behind table ended at ends behind = ⊎_elim

@@ -1,4 +1,4 @@
--- What is known of a file that was read.
+-- What is known of an ELF file that was read.
 use Rattle.std.specs.Prelude.{◌≡◌, ◌+◌, ◌*◌, ◌≤◌, ℕ, List, length, Option, None}
 use Rattle.elf32.specs.Format.{e_phoff, e_phnum, e_shoff, e_shnum}
 use Rattle.elf32.specs.Checks.{name_fault, section_names}

@@ -16,7 +16,7 @@ const MAGIC: [u8; 4] = [0x7F, b'E', b'L', b'F'];
 /// The Arm architecture, as e_machine.
 const EM_ARM: u16 = 40;
 
-/// The magic bytes, the length, and class, data, version and machine.
+/// Checks the magic bytes, the length, and class, data, version and machine.
 #[tactic(auto, unfolding(crate::specs::Checks::header_fault))]
 pub fn check_header(bytes: &[u8]) -> Result<(), ElfFault>
     ensures fault { Finds (header_fault bytes.now) result }
@@ -44,7 +44,7 @@ fn is_arm32(bytes: &[u8]) -> bool
     bytes[4] == 1 && bytes[5] == 1 && bytes[6] == 1 && machine(bytes) == EM_ARM
 }
 
-/// The entry sizes of the two tables, each where the table has entries.
+/// Checks the entry sizes of the two tables, if they have entries.
 #[tactic(auto, unfolding(crate::specs::Checks::size_fault))]
 pub fn check_sizes(bytes: &[u8]) -> Result<(), ElfFault>
     requires { 52 ≤ length bytes.now }
@@ -65,7 +65,7 @@ pub fn check_sizes(bytes: &[u8]) -> Result<(), ElfFault>
     Ok(())
 }
 
-/// Whether both tables end in the file, an empty one too.
+/// Checks that both tables end within the file, even if they are empty.
 #[tactic(auto, unfolding(crate::specs::Checks::table_fault))]
 pub fn check_tables(bytes: &[u8]) -> Result<(), ElfFault>
     requires { 52 ≤ length bytes.now }
@@ -86,7 +86,7 @@ pub fn check_tables(bytes: &[u8]) -> Result<(), ElfFault>
     Ok(())
 }
 
-/// The bytes of a part of a file; a part that goes past the file's end is refused by its name.
+/// The bytes of a part of a file. If the part goes past the file's end, the refusal names it.
 #[tactic(auto, unfolding(crate::specs::Checks::whole_part))]
 pub fn part<'a>(bytes: &'a [u8], named: Field, offset: u32, size: u32) -> Result<&'a [u8], ElfFault>
     ensures { Lends (whole_part bytes.entry.now named offset size) result }

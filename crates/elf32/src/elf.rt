@@ -1,4 +1,4 @@
-//! A file that was read.
+//! An ELF file that was read.
 ghost use Rattle.std.specs.Prelude.{◌≡◌, ◌≢◌, ◌<◌, None, Some, OnOk, IfOk, IfErr};
 ghost use Rattle.elf32.specs.Format.{e_phnum, segment_at};
 ghost use Rattle.elf32.specs.Checks.{file_fault};
@@ -15,7 +15,7 @@ use crate::symbols::{symbol_in, symbol_table};
 use std::alloc::Global;
 use std::marker::Model;
 
-/// An ELF file of 32 bits for Arm, little-endian. It borrows the file's bytes; a contract sees it as these.
+/// An ELF file of 32 bits for Arm, little-endian. It borrows the bytes of the file, and a contract sees it as those bytes.
 #[derive(Drop)]
 pub struct Elf<'a> {
     bytes: &'a [u8],
@@ -75,7 +75,7 @@ impl<'a> Elf<'a> {
         part(self.bytes, Field::Section, section.offset, section.size)
     }
 
-    /// The first symbol of a name, in the first symbol table, that belongs to a section. Without a symbol table there is none.
+    /// The first symbol of a name, in the first symbol table, that belongs to a section. There is none if there is no symbol table.
     #[tactic(auto, unfolding(crate::specs::Tables::symbol_of))]
     pub fn symbol(&self, name: &[u8]) -> Result<Option<Symbol>, ElfFault>
         ensures { result ≡ symbol_of self.now name.now }

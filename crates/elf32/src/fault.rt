@@ -47,13 +47,13 @@ pub enum Field {
 /// Why a file, or a part of it, is refused.
 #[derive(Clone, Copy, Debug, PartialEq, Eq, Error)]
 pub enum ElfFault {
-    /// There was no memory for the call.
+    /// Out of memory.
     #[error("OutOfMemory")]
     OutOfMemory,
     /// The file doesn't begin with the four magic bytes.
     #[error("NotElf")]
     NotElf,
-    /// The class, data, version or machine is another.
+    /// The class, data, version or machine isn't the one that is read here.
     #[error("NotArm32")]
     NotArm32,
     /// A header, table, section or segment goes past the file's end.

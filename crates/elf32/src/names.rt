@@ -17,8 +17,8 @@ use std::alloc::{AllocError, Global};
 /// The longest section name that is kept in a map, in bytes. A longer name is sought in the headers.
 pub const LONGEST_KEPT: usize = 64;
 
-/// How many sections, from the first on, have their names kept in a map. The map's hash has a fixed seed, so whoever makes a
-/// file can make its names collide; so few names cost little even then. A section behind them is sought in the headers.
+/// How many sections, from the first on, have their names kept in a map. The map's hash has a fixed seed, so a file can be made
+/// whose names collide; this few names cost little even then. A later section is looked up in the headers.
 pub const MOST_KEPT: usize = 64;
 
 /// The string table of section names, where there is one.

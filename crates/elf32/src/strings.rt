@@ -6,7 +6,7 @@ ghost use Rattle.elf32.specs.Strings.{is_zero, string_at, is_name, EndsAt, IsWit
 use crate::fault::ElfFault;
 use std::marker::Model;
 
-/// A string table, with the place behind its last zero byte, so that no string's end is sought twice.
+/// A string table, with the place after its last zero byte, so that the end of no string is searched for twice.
 #[derive(Drop)]
 pub struct Strings<'a> {
     bytes: &'a [u8],
@@ -62,7 +62,7 @@ impl<'a> Strings<'a> {
     }
 }
 
-/// The place behind the last zero byte of a table, 0 where it has none.
+/// The place after the last zero byte of a table, or 0 if it has none.
 fn last_end(table: &[u8]) -> usize
     ensures { EndsAt table.now result }
 {

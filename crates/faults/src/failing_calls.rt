@@ -1,4 +1,4 @@
-//! Calls that are to fail by their numbers, as tests ask it of objects in memory.
+//! Calls that are to fail by their numbers, as tests want of objects in memory.
 ghost use Rattle.std.specs.Prelude.{◌≡◌, ◌≤◌, ◌⊎◌, ◌↔◌, IsTrue, IfOk, false};
 ghost use Rattle.faults.specs.Counts.{Rose};
 ghost use Rattle.faults.specs.FailingCalls.{unused, IsDue, went, failed};
@@ -7,7 +7,7 @@ use crate::{FaultCount, OutOfMemory};
 use std::alloc::Global;
 use std::marker::Model;
 
-/// Counts calls from 1, and the faults among them. A call whose number is among given ones is to fail.
+/// Counts calls from 1, and the faults among them. A call is to fail if its number is on a list.
 #[derive(Drop)]
 pub struct FailingCalls {
     calls: u64,
@@ -62,7 +62,7 @@ impl FailingCalls {
         self.faults.raise();
     }
 
-    /// Counts a call, and whether it goes through: it fails where its number is to fail or there is no room for it.
+    /// Counts a call and answers whether it goes through. It fails if its number is to fail or there is no room for it.
     pub fn next_goes(&mut self, room: bool) -> bool
         ensures goes { IsTrue result → (self.new ≡ went self.old) × IsTrue room × (IsDue self.old → ⊥) }
         ensures rose { result ≡ false → (self.old.faults ≤ self.new.faults) × Rose self.old.faults self.new.faults }

@@ -63,7 +63,7 @@ flms_refusal files b (other_device base size) for is = record { board = b; board
 flms_refusal files b (no_room need have) for is = record { board = b; board_for = for; are_not = is }
 flms_refusal files b r for is = absurd (not_of_flm b b.regions (flms_in files) r is)
 
--- how many FLM files stand behind the first
+-- how many FLM files there are after the first
 pub others_count : (flm : Option (List ℕ)) (regions : List Region) → IsSome flm → others_of flm regions ≡ length regions - 1
 others_count None regions some = absurd cc
 others_count (Some f) regions some = refl

@@ -1,4 +1,4 @@
--- What is told of algorithms, and how a call ends.
+-- What is reported of algorithms, and how a call ends.
 use Rattle.std.proofs.Common.{◌≡◌, ◌<◌, ◌++◌, ◌⊎◌, ⊎_elim, refl, sym, subst, inl, inr, ℕ, Bool, List, [], ◌∷◌, slice_get, Some, Ok}
 use Rattle.std.proofs.Common.{Err}
 use Rattle.board_file.specs.Shown as board
@@ -29,7 +29,7 @@ use Rattle.flm_check.specs.Endings.{first_line}
 use Rattle.flm_check.specs.Verdicts.{IsTold, IsInside}
 use Rattle.flm_check.specs.Answers.{Claims, ClaimsOf, ComesRefused, PutsRefused, Works, refused_line}
 
--- ---- what is told of algorithms
+-- ---- what is reported of algorithms
 
 -- a breach is of one of them
 pub inside : (b : board.Shown) (algorithms : List flm.Shown) (count : ℕ) (v : Verdict) → ((k : ℕ) (a : flm.Shown) → slice_get algorithms k ≡ Some a → k < count)

@@ -146,7 +146,7 @@ front_of files options words some are = counted files.flm some are where
 pub words_few : (words : Words) → length words < 2 → (asked : Asked) → Asks words asked → ⊥
 words_few words few asked asks = absurd (omega (arith, few, front_of asked.files asks.options words asks.has_flm asks.words_are))
 
--- the first two are names, and behind them stand the images and the options
+-- the first two words are names, and after them come the images and the options
 pub record Apart (asked : Asked) (first second : List ℕ) (rest options : Words) : Type 0 where
   pub first_name : IsName first
   pub second_name : IsName second
@@ -171,7 +171,7 @@ words_apart words first second rest is asked asks = apart asked.files.flm asks.h
         names = All-tail IsName f asked.files.images tail;
       }
 
--- so many names in front of words are the images, and the others the options
+-- the first k words, which are names, are the images, and the others are the options
 pub options_behind : (k : ℕ) (rest images options : Words) (seed rounds : ℕ) → k ≤ 1 → k ≤ length rest → All IsName (take k rest)
     → (k ≡ 0 → (first : List ℕ) (others : Words) → rest ≡ first ∷ others → IsName first → ⊥) → rest ≡ images ++ options → length images ≤ 1 → All IsName images
     → AreOptions options seed rounds → AreOptions (drop k rest) seed rounds

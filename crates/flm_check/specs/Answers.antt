@@ -21,20 +21,20 @@ use Rattle.flm_check.specs.declared.ending.Ending.TheVariants as ending
 
 -- ---- what an ending says of algorithms
 
--- one of them doesn't keep its duties
+-- one of the algorithms doesn't keep its duties
 pub record OneBreaks (b : board.Shown) (algorithms : List flm.Shown) : Type 0 where
   pub region : ℕ
   pub algorithm : flm.Shown
   pub is : slice_get algorithms region ≡ Some algorithm
   pub refuted : Serves b algorithm region → ⊥
 
--- each keeps its duties, by a theorem; or nothing; or one of them doesn't
+-- what an ending claims: each algorithm keeps its duties, by a theorem; or nothing; or one doesn't keep them
 abbrev pub Claims : board.Shown → List flm.Shown → Ending → Type 0
 Claims b algorithms ending.Proved = AllServe b algorithms
 Claims b algorithms (ending.Tried lists calls) = Unit {0}
 Claims b algorithms (ending.Broken duty) = OneBreaks b algorithms
 
--- and so of the algorithms of files; A1 on a board that it serves is told as proved
+-- An ending claims this of the algorithms in some files. A1 on a board that it serves is reported as proved.
 pub record ClaimsOf (files : FilesGiven) (end : Ending) : Type 0 where
   pub board : board.Shown
   pub algorithms : List flm.Shown
@@ -42,15 +42,15 @@ pub record ClaimsOf (files : FilesGiven) (end : Ending) : Type 0 where
   pub claims : Claims board algorithms end
   pub proved : (a : flm.Shown) → algorithms ≡ a ∷ [] → IsA1On board a → end ≡ ending.Proved
 
--- ---- when each comes
+-- ---- when each answer comes
 
--- of words that ask for this, whose files were taken
+-- the words ask for a check of some files, all of these were taken, and `Holds` is true of them
 pub record OfFiles (words : List (List ℕ)) (inputs : InputsCall) (Holds : FilesGiven → Type 0) : Type 0 where
   pub asked : Asked
   pub asks : Asks words asked
   pub took : TookFiles inputs asked.files Holds
 
--- of words that ask for this, one of whose files couldn't be taken
+-- the words ask for a check of some files, and this one of them couldn't be taken
 pub record OfUntaken (words : List (List ℕ)) (inputs : InputsCall) (name : List ℕ) : Type 0 where
   pub asked : Asked
   pub asks : Asks words asked
@@ -69,12 +69,12 @@ Comes words inputs (Err e) = ComesRefused words inputs (shown e)
 
 -- ---- status and text
 
--- a text that begins with this line
+-- `out` took a text that begins with this line
 pub record TookBehind (out : SinkCall) (line : List ℕ) : Type 0 where
   pub rest : List ℕ
   pub took : TookAll out (line ++ rest)
 
--- a beginning of some text, where the count of `out` rose
+-- `out` took a beginning of some text, and its count of faults rose
 pub record TookSome (out : SinkCall) : Type 0 where
   pub text : List ℕ
   pub took : TookPart out text
@@ -89,7 +89,8 @@ abbrev pub PutsRefused : SinkCall → refusal.Refusal → Type 0
 PutsRefused out refusal.output_fault = TookSome out
 PutsRefused out r = TookNothing out
 
--- An ending has its status, and nothing on `err`; a refusal its status and its line on `err`, or a beginning of that where the count of `err` rose.
+-- An ending has its status and leaves `err` empty. A refusal has its status, and its line goes to `err`, or a beginning of it where
+-- the count of `err` rose.
 abbrev pub Says : ℕ → SinkCall → Result Ending Refusal → Type 0
 Says status err (Ok end) = (status ≡ status_of end) × TookNothing err
 Says status err (Err e) = (status ≡ refusal.status_of (shown e)) × (TookAll err (refused_line (shown e)) ⊎ TookPart err (refused_line (shown e)))
@@ -101,7 +102,7 @@ abbrev pub Leaves : SinkCall → Result Ending Refusal → Type 0
 Leaves out (Ok end) = TookBehind out (first_line end)
 Leaves out (Err e) = PutsRefused out (shown e)
 
--- the work of a call: all but the status and the line on `err`
+-- what a call does, except for the status and the line on `err`
 pub record Works (words : List (List ℕ)) (inputs : InputsCall) (out : SinkCall) (result : Result Ending Refusal) : Type 0 where
   pub comes : Comes words inputs result
   pub leaves : Leaves out result

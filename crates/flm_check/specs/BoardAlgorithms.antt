@@ -12,17 +12,17 @@ use Rattle.command_files.specs.Refused.{AreNotFor}
 abbrev pub flms_in : FilesGiven → List (List ℕ)
 flms_in files = option_to_list files.flm ++ files.images
 
--- the text is a board's, and there is an FLM file for each of its regions
+-- a text is that of a board, and there is an FLM file for each of its regions
 pub record IsBoardFor (files : FilesGiven) (b : board.Shown) : Type 0 where
   pub is_board : IsBoard files.board b
   pub each : length (flms_in files) ≡ length b.regions
 
--- each says an algorithm, which is one for its region
+-- each FLM file describes an algorithm that fits its region
 pub record AreBoardAlgorithms (files : FilesGiven) (b : board.Shown) (algorithms : List flm.Shown) : Type 0 where
   pub board_for : IsBoardFor files b
   pub are_for : AreFor b b.regions (flms_in files) algorithms
 
--- Why there is none.
+-- Why the files are refused.
 
 -- there are more or fewer FLM files than regions
 pub record HasOtherCount (files : FilesGiven) : Type 0 where
@@ -30,13 +30,13 @@ pub record HasOtherCount (files : FilesGiven) : Type 0 where
   pub is_board : IsBoard files.board board
   pub other : length (flms_in files) ≢ length board.regions
 
--- an FLM file isn't one for its region
+-- an FLM file isn't right for its region
 pub record HasNoAlgorithm (files : FilesGiven) (refusal : Refusal) : Type 0 where
   pub board : board.Shown
   pub board_for : IsBoardFor files board
   pub are_not : AreNotFor board board.regions (flms_in files) refusal
 
--- Each of these says that the earlier ones aren't so: the board comes first, then the number of FLM files, then each of them in its turn.
+-- Each reason comes only where no earlier one does: the board is first, then the number of FLM files, then each of them in its turn.
 abbrev pub IsRefused : FilesGiven → Refusal → Type 0
 IsRefused files (board_refused fault) = reading files.board ≡ Err fault
 IsRefused files usage = HasOtherCount files

@@ -1,4 +1,4 @@
--- How a call ends that judges algorithms: its status and its first line.
+-- How a check of algorithms ends: its status and its first line.
 use Rattle.std.specs.Prelude.{ℕ, List, [], ◌∷◌, codes, decimal}
 use Rattle.std.specs.List.{concat}
 use Rattle.flm_check.specs.declared.ending.Duty.{Duty}

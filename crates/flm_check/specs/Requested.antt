@@ -1,4 +1,4 @@
--- What is asked for, as the code has it.
+-- What a command line asks for, as values of the code.
 use Rattle.std.specs.Prelude.{◌≡◌, ℕ, List}
 use Rattle.command_words.specs.Requested.{files_of}
 use Rattle.command_words.specs.Words.{IsDecimal}

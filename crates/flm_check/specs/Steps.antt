@@ -1,4 +1,4 @@
--- What the steps answer that take and read the files.
+-- The answers of the steps that take and read the files.
 use Rattle.std.specs.Prelude.{◌⊎◌, map, Result, Ok, Err}
 use Rattle.board_file.specs.Shown as board
 use Rattle.flm_descriptor.specs.Shown as flm
@@ -11,7 +11,7 @@ use Rattle.command_files.specs.Steps.{IsTakeFault, TookFiles}
 use Rattle.flm_check.specs.BoardAlgorithms.{AreBoardAlgorithms, IsRefused}
 use Rattle.flm_check.specs.declared.board_algorithms.BoardAlgorithms.{BoardAlgorithms}
 
--- files say this board and these algorithms
+-- the files describe this board and these algorithms
 abbrev pub Say : FilesGiven → BoardAlgorithms → Type 0
 Say files checked = AreBoardAlgorithms files (board.shown checked.board) (map flm.shown checked.algorithms.items)
 

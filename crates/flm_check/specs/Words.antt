@@ -4,7 +4,7 @@ use Rattle.std.specs.List.{starts_with}
 use Rattle.command_words.specs.Files.{FilesAsked, names_in}
 use Rattle.command_words.specs.Words.{IsDecimal}
 
--- The files, of which the images are the FLM file of a second region, where there is one; the seed; and the rounds.
+-- What words ask for: files, a seed and a number of rounds. The images are the FLM file of a second region, if there is one.
 pub record Asked : Type 0 where
   pub files : FilesAsked
   pub seed : ℕ
@@ -20,7 +20,7 @@ seed_name = codes "--seed"
 abbrev pub rounds_name : List ℕ
 rounds_name = codes "--rounds"
 
--- The options: a name and a number in decimal digits each. A number that isn't given is 1.
+-- The options: each is a name and a number in decimal digits. A number that isn't given is 1.
 
 pub record NoOption (options : List (List ℕ)) (seed rounds : ℕ) : Type 0 where
   pub words_are : options ≡ []
@@ -57,7 +57,7 @@ abbrev pub AreOptions : List (List ℕ) → ℕ → ℕ → Type 0
 AreOptions options seed rounds = NoOption options seed rounds ⊎ (OnlySeed options seed rounds
     ⊎ (OnlyRounds options seed rounds ⊎ (SeedFirst options seed rounds ⊎ RoundsFirst options seed rounds)))
 
--- `BOARD FLM [FLM] [--seed N] [--rounds N]`, the options in either order
+-- the words are `BOARD FLM [FLM] [--seed N] [--rounds N]`, with the options in either order
 pub record Asks (words : List (List ℕ)) (asked : Asked) : Type 0 where
   pub options : List (List ℕ)
   pub words_are : words ≡ names_in asked.files ++ options

@@ -77,7 +77,7 @@ fn refuse<E: Sink>(err: &mut E, refusal: &Refusal<'_>) -> u8
     refusal.status()
 }
 
-/// Puts the line of a refusal. Words that fit no call are told with those that do.
+/// Puts the line of a refusal. Words that fit no call are answered with a usage line.
 fn put_reason<E: Sink>(err: &mut E, refusal: &Refusal<'_>) -> Result<(), OutputFault>
     ensures { Puts E.tells (E.state err.old) (E.state err.new) (refused_line (shown refusal.now)) result }
 {

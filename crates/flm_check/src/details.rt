@@ -1,4 +1,4 @@
-//! What stands behind the first line.
+//! What follows the first line.
 ghost use Rattle.std.specs.Prelude.{◌<◌, vec_len, map, IfOk};
 ghost use Rattle.board_file.specs.Shown.{shown as board_of};
 ghost use Rattle.flm_descriptor.specs.Shown.{shown as algorithm_of};
@@ -13,14 +13,14 @@ use duty_trials::{Breach, Count, PageBytes, Subject, Turn, Work};
 use faults::OutOfMemory;
 use std::alloc::{AllocError, Global};
 
-/// What is told: the ending, and the text behind its line.
+/// What is reported: the ending, and the text after its line.
 #[derive(Drop)]
 pub struct Answer {
     pub ending: Ending,
     pub details: String,
 }
 
-/// What is told of algorithms of which this is known.
+/// What is reported of algorithms with this report of trials.
 pub fn answer_of(
     alloc: Global,
     checked: &BoardAlgorithms,

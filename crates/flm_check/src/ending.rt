@@ -29,7 +29,7 @@ pub enum Duty {
     CellOutside,
 }
 
-/// What is told of algorithms.
+/// How the check of some algorithms ends.
 #[derive(Clone, Copy)]
 pub enum Ending {
     /// They keep their duties, by a theorem.
@@ -63,7 +63,7 @@ fn duty_of(broken: &Broken, is_inside: bool) -> Duty {
 impl Duty {
     ghost use Rattle.flm_check.specs.Endings.{word_of};
 
-    /// Its word.
+    /// The word for this duty in the report.
     pub fn word(self) -> &'static [u8]
         ensures { result.now ≡ word_of self }
     {
@@ -83,7 +83,7 @@ impl Ending {
     ghost use Rattle.flm_check.specs.Endings.{status_of, first_line};
     ghost use Rattle.flm_check.specs.Verdicts.{IsTold};
 
-    /// What is told of algorithms of which this is known. Of a cell that differs it is known whether it lies in the call's place.
+    /// The ending for a report. `is_inside` says whether a cell that differs lies in the call's place.
     pub fn of(report: &Report, is_inside: bool) -> Ending
         ensures { IsTold report.now.verdict result }
     {
@@ -109,7 +109,7 @@ impl Ending {
         }
     }
 
-    /// Puts its line, and a text behind it. A fault may leave a beginning of them.
+    /// Puts the line of this ending, and a text after it. A fault may leave a beginning of them.
     pub fn put<O: Sink>(self, out: &mut O, details: &[u8]) -> Result<(), OutputFault>
         ensures { Puts O.tells (O.state out.old) (O.state out.new) (first_line self ++ details.now) result }
     {

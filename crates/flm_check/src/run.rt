@@ -37,7 +37,7 @@ pub fn run(rt: HostRuntime) -> ExitCode {
     }
 }
 
-/// The end with the arguments that were read, of which the first is the program's own name.
+/// Ends the program with the arguments that were read. The first of them is the program's own name.
 fn end(streams: HeldStreams, arguments: Result<Vec<Word>, OutOfMemory>) -> ExitCode
     ensures { IsErr arguments → exit_status result ≡ 1 }
 {
@@ -47,7 +47,7 @@ fn end(streams: HeldStreams, arguments: Result<Vec<Word>, OutOfMemory>) -> ExitC
     }
 }
 
-/// The words behind the program's own name.
+/// The words after the program's own name.
 fn words_of(arguments: &[Word]) -> &[Word]
     ensures { result.now ≡ drop 1 arguments.now }
 {

@@ -13,7 +13,8 @@ use outside_io::Inputs;
 use report_text::Refusal;
 use std::alloc::Global;
 
-/// Takes the files in the order of the words, and then reads them. The first that can't be taken is told, and then the first refusal.
+/// Takes the files in the order of the words, and then reads them. The first file that can't be taken is answered, or else the
+/// first refusal.
 pub fn take_board_algorithms<'a, I: Inputs>(
     alloc: Global,
     names: &FileNames<'a>,

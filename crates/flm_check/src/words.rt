@@ -32,7 +32,7 @@ fn is_name(word: &Word) -> bool
     !word.bytes().starts_with(b"-")
 }
 
-/// How many names stand in front of these words, of which at most one counts.
+/// How many names these words begin with, counted up to 1.
 fn count_names(words: &[Word]) -> usize
     ensures few { result ≤ 1 }
     ensures inside { result ≤ length words.now }
@@ -45,7 +45,7 @@ fn count_names(words: &[Word]) -> usize
     if is_name(first) { 1 } else { 0 }
 }
 
-/// What an option and the word behind it give.
+/// What an option and the word after it give.
 fn read_setting(name: &Word, value: &Word) -> Option<Setting>
     ensures some { IfSome result (IsSetting name.now value.now) }
     ensures none { IfNone result ((setting : Setting) → IsSetting name.now value.now setting → ⊥) }
@@ -88,7 +88,7 @@ fn rounds_of_both(one: Setting, other: Setting) -> Option<Rounds>
     }
 }
 
-/// The rounds that options ask for, each of which stands once at most.
+/// The rounds that options ask for. Each option may be given once.
 fn read_options(options: &[Word]) -> Option<Rounds>
     ensures some { IfSome result (λ r. AreOptions options.now r.seed r.rounds) }
     ensures none { IfNone result ((seed rounds : ℕ) → AreOptions options.now seed rounds → ⊥) }

@@ -10,7 +10,7 @@ use Rattle.flm_descriptor.specs.declared.fault.FlmFault.TheVariants.{DescriptorS
 use Rattle.flm_descriptor.specs.declared.device.Device.{Device}
 use Rattle.flm_descriptor.specs.declared.items.SectorItem.{SectorItem}
 
--- the fields of the structure at a place
+-- the fields of the structure at a place of the section
 unfoldable pub fields_at : List ℕ → ℕ → Device
 fields_at bytes at = record {
   vers = field16 bytes at;
@@ -25,7 +25,7 @@ fields_at bytes at = record {
   to_erase = field32 bytes (at + 156);
 }
 
--- the structure's 160 bytes before its sector items have to be there
+-- the structure at a place, if its 160 bytes before the sector items are there
 unfoldable pub device_of : List ℕ → ℕ → Result Device FlmFault
 device_of bytes at = if nat_lt (length bytes) (at + 160) then Err DescriptorShort else Ok (fields_at bytes at)
 
@@ -33,15 +33,15 @@ device_of bytes at = if nat_lt (length bytes) (at + 160) then Err DescriptorShor
 unfoldable pub item_at : List ℕ → ℕ → ℕ → SectorItem
 item_at bytes at k = record { size = field32 bytes (at + 160 + 8 * k); offset = field32 bytes (at + 164 + 8 * k) }
 
--- SECTOR_END: the pair that ends the items
+-- whether pair `k` is SECTOR_END, which ends the items
 unfoldable pub is_end : List ℕ → ℕ → ℕ → Bool
 is_end bytes at k = ((item_at bytes at k).size == 0xFFFF_FFFF) && ((item_at bytes at k).offset == 0xFFFF_FFFF)
 
--- how many pairs are looked at: those that lie in the section, up to the one after 512 items (SECTOR_NUM)
+-- how many pairs are looked at: those within the section, up to the one after 512 items (SECTOR_NUM)
 abbrev pub pairs : List ℕ → ℕ → ℕ
 pairs bytes at = min 513 ((length bytes - (at + 160)) / 8)
 
--- the items before the first end pair
+-- the items before the first end pair, if there is one
 abbrev pub items_before : List ℕ → ℕ → Option ℕ → Result (List SectorItem) FlmFault
 items_before bytes at None = Err NoSectorEnd
 items_before bytes at (Some n) = Ok (map (item_at bytes at) (range_with_len 0 n))

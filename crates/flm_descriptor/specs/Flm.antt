@@ -1,4 +1,4 @@
--- What an FLM file says: a function of its bytes, which answers the algorithm or the first refusal.
+-- What an FLM file says, as a function of its bytes: the algorithm, or the first refusal.
 use Rattle.std.specs.Prelude.{◌≡◌, ℕ, List, Result, Ok}
 use Rattle.std.specs.Option.{option_map}
 use Rattle.elf32.specs.Checks.{file_fault}
@@ -15,7 +15,7 @@ use Rattle.flm_descriptor.specs.Parts.{Contents, sections_of, contents_of, symbo
 use Rattle.flm_descriptor.specs.Described.{device_of, items_of}
 use Rattle.flm_descriptor.specs.Limits.{page_fault, gap_fault, order_fault, size_fault, device_fault}
 
--- the checks of a device and its items
+-- the checks of a device and its sector items, in their order
 unfoldable pub limits_of : Device → List SectorItem → Result (Unit {0}) FlmFault
 limits_of device items = do
   page ← unless (page_fault device.page)
@@ -24,7 +24,7 @@ limits_of device items = do
   size ← unless (size_fault items)
   unless (device_fault device.base (shape device.size device.page items))
 
--- the device and its items, described at an address in the section DevDscr
+-- the device and its sector items, described at an address in the section DevDscr
 pub record Described : Type 0 where
   pub device : Device
   pub items : List SectorItem
@@ -36,7 +36,7 @@ described_of descriptor at = do
   lawful ← limits_of device items
   Ok (record { device = device; items = items })
 
--- the algorithm of sections and their bytes
+-- the algorithm that some sections and their bytes make
 unfoldable pub algorithm_of : List ℕ → Sections → Contents → Result Shown FlmFault
 algorithm_of bytes sections contents = do
   symbols ← symbols_of bytes
@@ -56,7 +56,7 @@ algorithm_of bytes sections contents = do
     items = described.items;
   })
 
--- what an FLM file says
+-- what an FLM file says: the algorithm, or the first check that fails
 unfoldable pub flm_of : List ℕ → Result Shown FlmFault
 flm_of bytes = do
   elf ← unless (option_map outer (file_fault bytes))

@@ -1,4 +1,4 @@
--- The named sections and symbols of an FLM file (Open-CMSIS-Pack, flash programming algorithms), and where they lie.
+-- The named sections and symbols of an FLM file (Open-CMSIS-Pack, flash programming algorithms), and where they are.
 use Rattle.std.specs.Prelude.{◌≡◌, length, IfSome, ℕ, ◌+◌, ◌-◌, ◌%◌, ◌==◌, ◌&&◌, ◌||◌, nat_lt, nat_le, Bool, List, [], codes, Option, Some, None, is_some}
 use Rattle.std.specs.Prelude.{Result, Ok, Err, if◌then◌else◌}
 use Rattle.std.specs.Option.{option_map}
@@ -16,7 +16,7 @@ use Rattle.flm_descriptor.specs.declared.algorithm.Entries.{Entries}
 use Rattle.faults.specs.Results.{◌>>=◌}
 use Rattle.flm_descriptor.specs.Results.{from_elf}
 
--- the names as they stand in a file
+-- the names as a file writes them
 unfoldable pub text_of : Name → List ℕ
 text_of name.PrgCode = codes "PrgCode"
 text_of name.DevDscr = codes "DevDscr"
@@ -28,7 +28,7 @@ text_of name.EraseChip = codes "EraseChip"
 text_of name.Verify = codes "Verify"
 text_of name.FlashDevice = codes "FlashDevice"
 
--- a section that has to be there
+-- a section that must be there
 abbrev pub needed : Name → Option Section → Result Section FlmFault
 needed named None = Err (NoSection named)
 needed named (Some section) = Ok section
@@ -73,7 +73,7 @@ contents_of bytes sections = do
   descriptor ← from_elf (section_part bytes sections.descriptor)
   Ok (record { code = code; init_data = init_data; descriptor = descriptor })
 
--- the value of a symbol that has to be there
+-- the value of a symbol that must be there
 abbrev pub value_or : Name → Option Symbol → Result ℕ FlmFault
 value_or named None = Err (NoSymbol named)
 value_or named (Some symbol) = Ok symbol.value
@@ -108,20 +108,20 @@ symbols_of bytes = do
     verify = verify;
   })
 
--- whether an address lies in a section
+-- whether an address is in a section
 abbrev pub holds : Section → ℕ → Bool
 holds section address = nat_le section.addr address && nat_lt address (section.addr + section.size)
 
--- an address that has to lie in a section, as a place in it; a refusal names the symbol's value
+-- the place in a section of an address that must be in it; a refusal names the symbol's value
 abbrev pub place_of : Section → Name → ℕ → ℕ → Result ℕ FlmFault
 place_of section named value address =
     if holds section address then Ok (address - section.addr) else Err (SymbolOutside named value)
 
--- bit 0 of a function's address marks Thumb code (ELF for the Arm Architecture) and is cleared
+-- the place of a function in the code: bit 0 of its address marks Thumb code (ELF for the Arm Architecture) and is cleared
 abbrev pub entry_of : Section → Name → ℕ → Result ℕ FlmFault
 entry_of code named value = place_of code named value (value - value % 2)
 
--- an optional entry
+-- the place of a function that may be absent
 abbrev pub optional_entry : Section → Name → Option ℕ → Result (Option ℕ) FlmFault
 optional_entry code named None = Ok None
 optional_entry code named (Some value) = entry_of code named value >>= λ place. Ok (Some place)
@@ -143,7 +143,7 @@ entries_of code symbols = do
     verify = verify;
   })
 
--- the end of a section that begins at an address or after it and ends at most at 0xFFFFFFFF; an absent one stands there
+-- the end of a section, which must begin at `before` or above and end at 0xFFFFFFFF or below; an absent section ends at `before`
 abbrev pub end_after : ℕ → Option Section → Result ℕ FlmFault
 end_after before None = Ok before
 end_after before (Some section) =
@@ -151,7 +151,7 @@ end_after before (Some section) =
     then Err DataBeforeCode
     else Ok (section.addr + section.size)
 
--- where a section stands, an absent one at an address
+-- the address of a section; an absent one begins at `before`
 abbrev pub start_or : ℕ → Option Section → ℕ
 start_or before None = before
 start_or before (Some section) = section.addr
@@ -160,7 +160,7 @@ abbrev pub size_or_none : Option Section → ℕ
 size_or_none None = 0
 size_or_none (Some section) = section.size
 
--- the places of data and zeroed data from the start of the code; the static base is that of the data, or of the zeroed data
+-- the places of data and zeroed data, from the start of the code; the static base is that of the data, or else of the zeroed data
 unfoldable pub data_places : Sections → Result DataPlaces FlmFault
 data_places sections = do
   code_end ← end_after sections.code.addr (Some sections.code)

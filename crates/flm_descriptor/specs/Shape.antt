@@ -4,7 +4,7 @@ use Rattle.std.specs.List.{range_with_len}
 use Rattle.flm_descriptor.specs.declared.items.SectorItem.{SectorItem}
 use Rattle.flm_descriptor.specs.declared.geometry.Run.{Run}
 
--- the places from `start` on, before `stop`
+-- a range of places: from `start` on and before `stop`
 pub record Range : Type 0 where
   pub start : ℕ
   pub stop : ℕ
@@ -12,7 +12,7 @@ pub record Range : Type 0 where
 abbrev pub range : ℕ → ℕ → Range
 range a b = record { start = a; stop = b }
 
--- a device's size, the bytes of a page, and the sector items
+-- the shape of a device: its size, the bytes of a page, and the sector items
 pub record Shape : Type 0 where
   pub size : ℕ
   pub page : ℕ
@@ -38,7 +38,7 @@ unfoldable pub item_end : ℕ → List SectorItem → ℕ
 item_end size [] = size
 item_end size (next ∷ rest) = min next.offset size
 
--- an item's sectors lie from its offset to the next one's, or to the device's end
+-- the runs of sectors, one for each item: from its offset to that of the next item, or to the device's end
 unfoldable pub runs_of : ℕ → List SectorItem → List Run
 runs_of size [] = []
 runs_of size (item ∷ rest) = record { start = item.offset; stop = item_end size rest; step = item.size } ∷ runs_of size rest
@@ -59,14 +59,14 @@ sectors s = sectors_of (runs_of s.size s.items)
 abbrev pub pages : Shape → List Range
 pages s = pages_of s.page (sectors s)
 
--- the offset and the size of item `k`; past the end 0
+-- the offset and the size of item `k`, or 0 after the last one
 abbrev pub offset_at : List SectorItem → ℕ → ℕ
 offset_at items k = get_or (map (λ item. item.offset) items) k 0
 
 abbrev pub size_at : List SectorItem → ℕ → ℕ
 size_at items k = get_or (map (λ item. item.size) items) k 0
 
--- what holds of the shape of each algorithm's device
+-- what holds for the shape of each algorithm's device
 pub record IsLawful (s : Shape) : Type 0 where
   pub size_some : 1 ≤ s.size
   pub size_limit : s.size ≤ 16777216
@@ -80,11 +80,11 @@ pub record IsLawful (s : Shape) : Type 0 where
   pub sectors_limit : length (sectors s) ≤ 65536
   pub pages_limit : length (pages s) ≤ 1048576
 
--- range `k` of some, empty past the end
+-- range `k` of a list, or an empty one after the last
 abbrev pub range_at : List Range → ℕ → Range
 range_at rs k = get_or rs k (range 0 0)
 
--- run `k` of some, empty past the end
+-- run `k` of a list, or an empty one after the last
 abbrev pub run_at : List Run → ℕ → Run
 run_at runs k = get_or runs k (record { start = 0; stop = 0; step = 0 })
 

@@ -1,4 +1,4 @@
--- A flash algorithm as what it says.
+-- A flash algorithm as contracts see it.
 use Rattle.std.specs.Prelude.{ℕ, List}
 use Rattle.flm_descriptor.specs.declared.algorithm.Algorithm.{Algorithm}
 use Rattle.flm_descriptor.specs.declared.algorithm.Entries.{Entries}

@@ -128,7 +128,7 @@ impl From<OutOfMemory> for FlmFault {
     }
 }
 
-/// Want of memory is this type's own variant, and never stands within.
+/// Out of memory is always `FlmFault::OutOfMemory`, and never inside `FlmFault::Elf`.
 impl From<ElfFault> for FlmFault {
     ghost use Rattle.std.specs.Prelude.{◌≡◌};
     ghost use Rattle.flm_descriptor.specs.Results.{outer};

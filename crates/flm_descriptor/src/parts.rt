@@ -259,7 +259,7 @@ fn size_or_none(section: Option<Section>) -> u32
     }
 }
 
-/// Where data and zeroed data stand behind the code.
+/// Where the data and the zeroed data are, after the code.
 #[tactic(auto, unfolding(crate::specs::Parts::data_places))]
 pub fn lay_out(sections: &Sections) -> Result<DataPlaces, FlmFault>
     ensures layout { result ≡ data_places sections.now }

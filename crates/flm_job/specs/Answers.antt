@@ -14,7 +14,7 @@ pub record OfPart (words : List (List ℕ)) (bench : BenchCall) (out : SinkCall)
   pub ask : AskFor words part
   pub ends : GiveEnds part bench out answer
 
--- they fit nothing: this is said, and nothing is done
+-- the words ask for no part of a job: `usage` is answered, and nothing is done
 pub record OfNothing (words : List (List ℕ)) (bench : BenchCall) (out : SinkCall) (answer : Answer) : Type 0 where
   pub none : (part : Part) → AskFor words part → ⊥
   pub answer_is : answer ≡ refused refusal.usage
@@ -29,7 +29,8 @@ abbrev pub refused_line : refusal.Refusal → List ℕ
 refused_line refusal.usage = codes "flmprog: usage: flm_job JOB [board | flm [1|2] | image hex|srec | snapshot raw]\n"
 refused_line r = line_of r
 
--- Status 0 says nothing on `err`. A refusal has its status, and its line goes to `err`, or a beginning of it where the count of `err` rose.
+-- With status 0 `err` stays empty. A refusal has its status, and its line goes to `err`, or a beginning of it where the count of
+-- `err` rose.
 abbrev pub Says : ℕ → SinkCall → Answer → Type 0
 Says status err done = (status ≡ 0) × TookNothing err
 Says status err (refused r) = (status ≡ refusal.status_of r) × (TookAll err (refused_line r) ⊎ TookPart err (refused_line r))
@@ -37,6 +38,6 @@ Says status err (refused r) = (status ≡ refusal.status_of r) × (TookAll err (
 pub record Answers (words : List (List ℕ)) (status : ℕ) (bench : BenchCall) (out err : SinkCall) : Type 0 where
   pub answer : Answer
   pub says : Says status err answer
-  -- status 0 is nothing else than done
+  -- the status is 0 only where the answer is done
   pub zero : status ≡ 0 → answer ≡ done
   pub ends : Ends words bench out answer

@@ -6,7 +6,7 @@ use Rattle.job_parts.specs.declared.part.Place.TheVariants as place
 use Rattle.job_parts.specs.declared.part.Part.{Part}
 use Rattle.job_parts.specs.declared.part.Part.TheVariants as part
 
--- a form of a text
+-- the word for a form of a text
 abbrev pub IsForm : List ℕ → TextForm → Type 0
 IsForm word Hex = word ≡ codes "hex"
 IsForm word Srec = word ≡ codes "srec"
@@ -23,13 +23,13 @@ image_name = codes "image"
 abbrev pub snapshot_name : List ℕ
 snapshot_name = codes "snapshot"
 
--- a name and the word for a form
+-- the words are a name and the word for a form
 pub record AskForForm (words : List (List ℕ)) (name : List ℕ) (form : TextForm) : Type 0 where
   pub word : List ℕ
   pub words_are : words ≡ name ∷ word ∷ []
   pub is_form : IsForm word form
 
--- nothing, or `board`, `flm [1|2]`, `image hex|srec` or `snapshot raw`. The FLM file without a number is that of the first region.
+-- The words ask for a part: nothing, or `board`, `flm [1|2]`, `image hex|srec` or `snapshot raw`. `flm` alone is the first region's.
 abbrev pub AskFor : List (List ℕ) → Part → Type 0
 AskFor words part.Listing = words ≡ []
 AskFor words part.Board = words ≡ board_name ∷ []

@@ -17,8 +17,8 @@ use outside_io::{OutputFault, Sink, put_all};
 use report_text::{Refusal, put_refusal};
 use std::alloc::Global;
 
-/// Puts what the words ask for of the job in the job file, which is only read. Answers the status that the program ends with. Each status but 0
-/// puts one line on `err`, whose faults change no status.
+/// Puts the part of the job that the words ask for. The job file is only read. Answers the status that the program ends with. Each status
+/// but 0 puts one line on `err`; faults of `err` don't change the status.
 pub fn show<B: Bench, O: Sink, E: Sink>(
     alloc: Global,
     words: &[Word],
@@ -35,7 +35,7 @@ pub fn show<B: Bench, O: Sink, E: Sink>(
     }
 }
 
-/// The work of a call, without its status and its line on `err`.
+/// What a call does, except for its status and its line on `err`.
 fn work<'a, B: Bench, O: Sink>(
     alloc: Global,
     words: &[Word],
@@ -61,7 +61,7 @@ fn refuse<E: Sink>(err: &mut E, refusal: &Refusal<'_>) -> u8
     refusal.status()
 }
 
-/// Puts the line of a refusal. Words that fit nothing are answered with those that do.
+/// Puts the line of a refusal. Words that fit nothing are answered with a usage line.
 fn put_reason<E: Sink>(err: &mut E, refusal: &Refusal<'_>) -> Result<(), OutputFault>
     ensures { Puts E.tells (E.state err.old) (E.state err.new) (refused_line (shown refusal.now)) result }
 {

@@ -1,4 +1,4 @@
-//! What is in a job file, and its parts: `flm_job JOB [board | flm [1|2] | image hex|srec | snapshot]`.
+//! Lists what is in a job file, or reads out its parts: `flm_job JOB [board | flm [1|2] | image hex|srec | snapshot]`.
 #![tactic(auto)]
 
 mod call;

@@ -7,8 +7,8 @@ use std::io::ErrorKind;
 use std::os::unix::fs::FileExt;
 use std::{fs, io};
 
-/// A job file that is opened for reading alone, without cells. It tells nothing. What would change a file fails, and a sync has nothing to bring to
-/// the disk.
+/// A job file that is opened only for reading, without cells. Contracts see nothing of it. Calls that would change a file fail, and a sync
+/// has nothing to do.
 #[derive(Drop)]
 pub struct ReadDisk {
     rt: HostRuntime,
@@ -26,7 +26,7 @@ impl ReadDisk {
         }
     }
 
-    /// The file, where it is open.
+    /// The file, if it is open.
     fn opened(&self) -> io::Result<&File> {
         match &self.file {
             Some(file) => Ok(file),
@@ -35,8 +35,8 @@ impl ReadDisk {
     }
 }
 
-/// Opens a file that no other program writes. What is no plain file, as a folder or a pipe, is an error. A file system that has no locks is read
-/// without one.
+/// Opens a file that no other program writes. A file that isn't plain, such as a folder or a pipe, is an error. On a file system without
+/// locks the file is read without one.
 fn open_shared(rt: HostRuntime, name: &str) -> io::Result<File> {
     if !fs::metadata(&rt, name)?.is_file() {
         return Err(io::Error::from(ErrorKind::InvalidInput));

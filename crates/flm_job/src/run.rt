@@ -18,8 +18,8 @@ const NO_MEMORY: u8 = 1;
 /// The status where the standard streams can't be held.
 const NO_STREAMS: u8 = 10;
 
-/// Gives what the program's own arguments ask for: the status that it is to end with. Where there is no memory for the arguments that is 1. Where
-/// the standard streams can't be held no file is opened, and it is 10, as where standard output failed.
+/// Reads out what the program's arguments ask for, and answers the status to end with. It is 1 if there is no memory for the arguments. If the
+/// standard streams can't be held, no file is opened and it is 10, as when standard output fails.
 pub fn run(rt: HostRuntime) -> ExitCode {
     match hold_streams(rt) {
         Ok(streams) => end(streams, read_arguments(rt)),
@@ -27,7 +27,7 @@ pub fn run(rt: HostRuntime) -> ExitCode {
     }
 }
 
-/// The end with the arguments that were read, of which the first is the program's own name.
+/// Ends the program with the arguments that were read. The first of them is the program's own name.
 fn end(streams: HeldStreams, arguments: Result<Vec<Word>, OutOfMemory>) -> ExitCode
     ensures { IsErr arguments → exit_status result ≡ 1 }
 {
@@ -37,7 +37,7 @@ fn end(streams: HeldStreams, arguments: Result<Vec<Word>, OutOfMemory>) -> ExitC
     }
 }
 
-/// The end where no stream can be held.
+/// Ends the program if the streams can't be held.
 fn end_without_streams(rt: HostRuntime) -> ExitCode
     ensures { exit_status result ≡ 10 }
 {
@@ -45,7 +45,7 @@ fn end_without_streams(rt: HostRuntime) -> ExitCode
     ExitCode::from(NO_STREAMS)
 }
 
-/// The status of a call that was answered so.
+/// The status for this answer of a call.
 fn status_of(answered: Result<u8, OutOfMemory>) -> u8
     ensures answered { IfOk answered (λ status. result ≡ status) }
     ensures memory { IsErr answered → result ≡ 1 }
@@ -56,14 +56,14 @@ fn status_of(answered: Result<u8, OutOfMemory>) -> u8
     }
 }
 
-/// The words behind the program's own name and that of the job file.
+/// The words after the program's own name and the name of the job file.
 fn words_of(arguments: &[Word]) -> &[Word]
     ensures { result.now ≡ drop 2 arguments.now }
 {
     &arguments[arguments.len().min(2)..]
 }
 
-/// The name of the job file. A missing one is empty, and there is no file of that name.
+/// The name of the job file. If it is missing it is empty, and no file has that name.
 fn job_name(arguments: &[Word]) -> &str {
     match arguments.get(1) {
         Some(word) => word.text(),
@@ -86,7 +86,7 @@ fn call(streams: HeldStreams, arguments: &[Word]) -> Result<u8, OutOfMemory> {
     ))
 }
 
-/// The bench over a job file for as many cells as its job says, if it stands for one.
+/// A bench over a job file, with as many cells as its job says, if it stands for one.
 fn bench_of(rt: HostRuntime, name: &str) -> Result<DiskBench<ReadDisk>, OutOfMemory> {
     let mut bench = bench_with(rt, name, 0)?;
     match open(rt.alloc(), &mut bench) {
@@ -95,7 +95,7 @@ fn bench_of(rt: HostRuntime, name: &str) -> Result<DiskBench<ReadDisk>, OutOfMem
     }
 }
 
-/// The bench over a job file for so many cells.
+/// A bench over a job file, with this number of cells.
 fn bench_with(rt: HostRuntime, name: &str, cells: u32) -> Result<DiskBench<ReadDisk>, OutOfMemory> {
     let name = Word::copy(rt.alloc(), name)?;
     Ok(DiskBench::new(ReadDisk::new(rt, name), cells))

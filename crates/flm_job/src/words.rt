@@ -68,7 +68,7 @@ fn read_two(word: &Word, detail: &Word) -> Option<Part>
     }
 }
 
-/// What words ask for, or none where they fit nothing.
+/// What words ask for, or none if they fit nothing.
 pub fn read_part(words: &[Word]) -> Option<Part>
     ensures some { IfSome result (AskFor words.now) }
     ensures none { IfNone result ((part : Part) → AskFor words.now part → ⊥) }

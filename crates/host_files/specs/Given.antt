@@ -5,6 +5,6 @@ use Rattle.std.specs.declared.alloc.Global.{Global}
 use Rattle.std.specs.declared.string.String.{String}
 use Rattle.std.specs.declared.vec.IntoIter.{IntoIter}
 
--- their bytes, in their order
+-- the bytes of the arguments, in their order
 abbrev pub texts_of : IntoIter (String Global) Global → List (List ℕ)
 texts_of given = map (λ argument. string_bytes argument) (into_iter_items given)

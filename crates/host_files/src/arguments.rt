@@ -10,7 +10,7 @@ use std::alloc::Global;
 use std::env::{self, Args};
 use std::io::{self, ErrorKind};
 
-/// Reads the arguments of the program, of which the first is its own name. Where one isn't UTF-8 there are none.
+/// Reads the arguments of the program. The first one is its own name. If one of them isn't UTF-8, the list is empty.
 pub fn read_arguments(rt: HostRuntime) -> Result<Vec<Word>, OutOfMemory> {
     arguments_of(rt.alloc(), env::args(&rt))
 }

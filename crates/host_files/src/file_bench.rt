@@ -64,9 +64,9 @@ impl ShownBench<DiskBench<WindowedDisk<HostDisk>>> {
         FileBench::opened(rt, job_name, cells_name, &[], Purpose::Looks)
     }
 
-    /// The same beside other benches of this program. A file that one of these has counts as one that another program writes: each call on it
-    /// that can fail does. So two benches never change one file, whatever locks the system has. A job file that isn't there yet is
-    /// nobody's: what takes it up finds no job.
+    /// Opens the files as `new` does, beside other benches of this program. A file that one of these has counts as one that another program
+    /// writes: each call on it that can fail does. So two benches never change one file, even on a system without locks. A job
+    /// file that doesn't exist yet belongs to no bench: a command that resumes it finds no job.
     pub fn beside(
         rt: HostRuntime,
         job_name: Word,
@@ -82,8 +82,8 @@ impl ShownBench<DiskBench<WindowedDisk<HostDisk>>> {
         FileBench::opened(rt, job_name, cells_name, others, Purpose::Looks)
     }
 
-    /// The same for a purpose. Where that is to change the files, other programs are kept from reading each from its first call on, if none
-    /// reads it then: so none that begins to read it later is in the way.
+    /// Opens the files for a purpose, as `beside` does. If the purpose is to change them, other programs are kept from reading each file
+    /// from the first call on it, unless one is reading it then. So no program that begins to read later gets in the way.
     pub fn opened(
         rt: HostRuntime,
         job_name: Word,

@@ -28,11 +28,11 @@ enum Hold {
     Lost,
 }
 
-/// The advisory lock on an open file. It is kept until the file is closed. A file system that has no locks is gone on with.
+/// The advisory lock on an open file. It is kept until the file is closed. On a file system without locks the program runs without one.
 ///
-/// A lock that another program holds is asked for again for up to a second, the first time that it is in the way: a program that only looks at the
-/// file is done by then. Where a shared lock is held an exclusive one is asked for only once. If it is refused the system has taken the shared one
-/// away, and another program may have changed the file.
+/// If another program holds the lock, it is asked for again for up to a second, the first time only: a program that only reads the
+/// file is done by then. While a shared lock is held, an exclusive one is asked for only once. If that is refused, the system has
+/// released the shared one, and another program may have changed the file.
 #[derive(Drop)]
 pub struct FileLock {
     rt: HostRuntime,
@@ -44,7 +44,7 @@ pub struct FileLock {
 }
 
 impl FileLock {
-    /// Nothing is held yet.
+    /// A lock that isn't held yet.
     pub fn new(rt: HostRuntime) -> FileLock
         ensures { result.hold ≡ Hold.Nothing }
     {
@@ -56,21 +56,21 @@ impl FileLock {
         }
     }
 
-    /// Gives the lock up: nothing is held, and nothing ever will be.
+    /// Gives the lock up for good: nothing is held from now on.
     pub fn lose(&mut self)
         ensures { self.new.hold ≡ Hold.Lost }
     {
         self.hold = Hold::Lost;
     }
 
-    /// Says whether other programs are to be kept from reading the file from the first call on, where none reads it then.
+    /// Sets whether other programs are kept from reading the file from the first call on, unless one is reading it then.
     pub fn claim(&mut self, claims: bool)
         ensures { self.new.hold ≡ self.old.hold }
     {
         self.claims = claims;
     }
 
-    /// Keeps other programs from writing the file. Where one does, or has since this lock was lost, it is an error.
+    /// Keeps other programs from writing the file. It is an error if one does now, or has since this lock was lost.
     pub fn share(&mut self, file: &File) -> io::Result<()>
         ensures lost { self.old.hold ≡ Hold.Lost → IsErr result }
         ensures kept { self.old.hold ≡ Hold.Exclusive → self.new.hold ≡ Hold.Exclusive }
@@ -88,7 +88,7 @@ impl FileLock {
         }
     }
 
-    /// Keeps other programs from reading and writing the file. Where one does, it is an error, and a shared lock that was held is lost.
+    /// Keeps other programs from reading and writing the file. If one does, it is an error, and a shared lock that was held is lost.
     pub fn own(&mut self, file: &File) -> io::Result<()>
         ensures lost { self.old.hold ≡ Hold.Lost → IsErr result }
         ensures owned { OnOk result (self.new.hold ≡ Hold.Exclusive) }
@@ -104,7 +104,7 @@ impl FileLock {
         }
     }
 
-    /// Asks the system for this lock, and where nothing is held waits for another program that has it.
+    /// Asks the system for this lock. If none is held yet, it waits for another program that has it.
     fn ask(&mut self, file: &File, wanted: Hold) -> Result<(), TryLockError>
         ensures { self.new.hold ≡ self.old.hold }
     {
@@ -116,7 +116,7 @@ impl FileLock {
         wait_for(self.rt, file, wanted)
     }
 
-    /// Follows what the system answered. One that didn't give the lock took the one that was held. A file system that has no locks is gone on with.
+    /// Follows the system's answer. If the lock is refused, the one held before is lost. On a file system without locks, this goes through.
     fn take(&mut self, answer: Result<(), TryLockError>, wanted: Hold) -> io::Result<()>
         ensures took { OnOk result (self.new.hold ≡ wanted) }
         ensures without { (fault : Error) → answer ≡ Err (TryLockError.Error fault) → IsOk result }
@@ -152,7 +152,7 @@ fn is_busy(answer: &Result<(), TryLockError>) -> bool {
     matches!(answer, Err(TryLockError::WouldBlock))
 }
 
-/// Asks for a lock that another program holds, again and again for a second. The processor is free meanwhile.
+/// Asks for a lock that another program holds, repeatedly for a second. The processor is free between the tries.
 fn wait_for(rt: HostRuntime, file: &File, wanted: Hold) -> Result<(), TryLockError> {
     let start = Instant::now(&rt).ok();
     for _ in 0..MOST_AGAIN {

@@ -6,7 +6,7 @@ use crate::job_file::JobFile;
 use disk_files::Disk;
 use std::io;
 
-/// A job file and a cells file of the system. It tells nothing.
+/// A job file and a cells file of the system. Contracts see nothing of their contents.
 #[derive(Drop)]
 pub struct HostDisk {
     job: JobFile,
@@ -60,7 +60,7 @@ impl Disk for HostDisk {
         self.job.read_at(at, out)
     }
 
-    // a job is changed only where its cells can be changed too: else it would be begun, and then fail
+    // a job is changed only if its cells can be changed too; otherwise it would begin and then fail
     fn job_write_at(&mut self, at: u64, bytes: &[u8]) -> io::Result<usize> {
         self.cells.keep()?;
         self.job.write_at(at, bytes)

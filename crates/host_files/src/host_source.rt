@@ -5,7 +5,7 @@ use std::io;
 use std::io::{ErrorKind, Read};
 use stream_files::Source;
 
-/// The system's files by their paths. They don't tell what stands under a name.
+/// The system's files by their paths. Contracts see nothing of their contents.
 #[derive(Drop)]
 pub struct HostSource {
     rt: HostRuntime,

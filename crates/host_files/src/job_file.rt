@@ -11,15 +11,15 @@ use std::os::unix::fs::FileExt;
 use std::path::Path;
 use std::{fs, io};
 
-/// An open job file, with the folder in which it stands.
+/// An open job file and its folder.
 #[derive(Drop)]
 struct Opened {
     file: File,
     folder: File,
 }
 
-/// A job file. Each call on it fails where it isn't open, or another program has it locked, and a change where another looks
-/// at it.
+/// A job file. Each call on it fails if the file isn't open, or if another program has locked it. A change also fails while another program
+/// reads the file.
 #[derive(Drop)]
 pub struct JobFile {
     rt: HostRuntime,
@@ -30,7 +30,7 @@ pub struct JobFile {
 }
 
 impl JobFile {
-    /// The job file of this name, not opened yet. It may not be the file of the cells.
+    /// The job file of this name, not opened yet. It must not be the cells file.
     pub fn new(rt: HostRuntime, name: Word, cells: Option<FileId>) -> JobFile
         ensures name { result.name ≡ name }
         ensures cells { result.cells ≡ cells }
@@ -45,7 +45,7 @@ impl JobFile {
         }
     }
 
-    /// Has each call fail from now on that another program's lock would have fail.
+    /// Makes each later call fail that another program's lock would make fail.
     pub fn shut(&mut self)
         ensures name { self.new.name ≡ self.old.name }
         ensures lock { self.new.lock.hold ≡ hold.Lost }
@@ -53,7 +53,7 @@ impl JobFile {
         self.lock.lose();
     }
 
-    /// Says whether other programs are to be kept from reading the file from the first call on, where none reads it then.
+    /// Sets whether other programs are kept from reading the file from the first call on, unless one is reading it then.
     pub fn claim(&mut self, claims: bool)
         ensures name { self.new.name ≡ self.old.name }
         ensures lock { self.new.lock.hold ≡ self.old.lock.hold }
@@ -61,7 +61,7 @@ impl JobFile {
         self.lock.claim(claims);
     }
 
-    /// Opens the file, or makes it where it is missing.
+    /// Opens the file, or makes it if it is missing.
     pub fn open(&mut self) -> io::Result<()> {
         if self.opened.is_none() {
             self.opened = Some(open_or_make(self.rt, self.name.text(), self.cells)?);
@@ -70,7 +70,7 @@ impl JobFile {
         Ok(())
     }
 
-    /// The file, which no other program writes.
+    /// The file, once no other program can write it.
     fn shared(&mut self) -> io::Result<&File> {
         match &self.opened {
             Some(Opened { file, folder: _ }) => {
@@ -81,7 +81,7 @@ impl JobFile {
         }
     }
 
-    /// The file, which no other program reads or writes.
+    /// The file, once no other program can read or write it.
     fn owned(&mut self) -> io::Result<&File> {
         match &self.opened {
             Some(Opened { file, folder: _ }) => {
@@ -116,7 +116,7 @@ impl JobFile {
         self.owned()?.set_len(len)
     }
 
-    /// Brings the file to the disk.
+    /// Syncs the file to the disk.
     pub fn sync(&mut self) -> io::Result<()> {
         match &self.opened {
             Some(Opened { file, folder: _ }) => {
@@ -127,8 +127,8 @@ impl JobFile {
         }
     }
 
-    /// Brings the file's entry in its folder to the disk. Another program, or a run that was killed, may just have made it:
-    /// so a host that loses power still finds the file under its name.
+    /// Syncs the file's entry in its folder to the disk. Another program, or a run that was killed, may just have made the file:
+    /// so after a loss of power the host still finds it under its name.
     pub fn sync_folder(&mut self) -> io::Result<()> {
         match &self.opened {
             Some(Opened { file: _, folder }) => folder.sync_all(),
@@ -137,7 +137,7 @@ impl JobFile {
     }
 }
 
-/// Opens a job file, or makes it. One that is the file of the cells is an error.
+/// Opens a job file, or makes it. It is an error if it is the cells file.
 fn open_or_make(rt: HostRuntime, name: &str, cells: Option<FileId>) -> io::Result<Opened> {
     match OpenOptions::new().read(true).write(true).open(&rt, name) {
         Ok(file) => Ok(Opened {
@@ -149,7 +149,7 @@ fn open_or_make(rt: HostRuntime, name: &str, cells: Option<FileId>) -> io::Resul
     }
 }
 
-/// Answers a file that isn't the one of the cells, under whatever name.
+/// Answers the file, unless it is the cells file under any name.
 fn apart(file: File, cells: Option<FileId>) -> io::Result<File> {
     if FileId::of(&file)?.matches(cells) {
         return Err(io::Error::from(ErrorKind::InvalidInput));
@@ -157,7 +157,7 @@ fn apart(file: File, cells: Option<FileId>) -> io::Result<File> {
     Ok(file)
 }
 
-/// Makes a job file where there is none. A link that leads to no file is an error, and so is a folder that can't be opened
+/// Makes a job file if there is none. A link that leads to no file is an error. So is a folder that can't be opened
 /// for its sync: then no file is made.
 fn make(rt: HostRuntime, name: &str) -> io::Result<Opened> {
     let folder = open_folder(rt, Path::new(name))?;
@@ -165,7 +165,7 @@ fn make(rt: HostRuntime, name: &str) -> io::Result<Opened> {
     Ok(Opened { file, folder })
 }
 
-/// Opens the folder in which a file stands. Where its name is that of a link, that is the folder to which it leads.
+/// Opens the folder of a file. If the name is that of a link, it is the folder to which the link leads.
 fn open_real_folder(rt: HostRuntime, name: &str) -> io::Result<File> {
     if fs::symlink_metadata(&rt, name)?.is_symlink() {
         open_folder(rt, fs::canonicalize(&rt, name)?.as_path())
@@ -174,7 +174,7 @@ fn open_real_folder(rt: HostRuntime, name: &str) -> io::Result<File> {
     }
 }
 
-/// Opens the folder of this path's last name.
+/// Opens the folder that a path names before its last part.
 fn open_folder(rt: HostRuntime, path: Path<'_>) -> io::Result<File> {
     let folder = match path.parent() {
         Some(folder) if !folder.as_os_str().is_empty() => folder,

@@ -1,17 +1,17 @@
-//! How many cells a plan is about, read from its text.
+//! How many cells a plan erases and programs, read from its text.
 
 /// What a line of a plan asks for.
 #[derive(Clone, Copy)]
 enum Action {
     Erase,
     Program,
-    // it names a region of several
+    // it names one of several regions
     Region,
     Other,
 }
 
 impl Action {
-    /// That of a line which begins with this byte.
+    /// What a line that begins with this byte asks for.
     fn of(first: u8) -> Action {
         match first {
             b'e' => Action::Erase,
@@ -22,23 +22,23 @@ impl Action {
     }
 }
 
-/// The cells that a plan erases and programs, summed up while its text passes, cut anywhere. A line that begins with `erase` or `program` has an
-/// address and a number of cells after that. Only `erase chip` has none: it counts for all cells of the device, and for none on a board of two
-/// regions, which are two chips.
+/// The cells that a plan erases and programs, summed up while pieces of its text go by. A line that begins with `erase` or `program` has an
+/// address and then a number of cells. Only `erase chip` has none: it counts for all cells of the device. On a board of two regions, which
+/// are two chips, it counts for none.
 #[derive(Clone, Copy)]
 pub struct PlanTotals {
     pub erased: u64,
     pub programmed: u64,
     // the cells of the chip
     cells: u64,
-    // of the line that passes: what it asks for, once a byte of it has passed; its blanks so far; and the number after the second of them
+    // the current line: what it asks for, once its first byte is known; its blanks so far; and the number after the second blank
     action: Option<Action>,
     blanks: u32,
     number: u64,
 }
 
 impl PlanTotals {
-    /// Before any text.
+    /// The totals before any text.
     pub fn new() -> PlanTotals {
         PlanTotals {
             erased: 0,
@@ -65,8 +65,8 @@ impl PlanTotals {
         }
     }
 
-    /// How much of the plan is done with these cells, in percent. It isn't known where more is done than the text said: where one chip of two is
-    /// erased whole, or where there was no such text.
+    /// How much of the plan is done with these cells, in percent. It isn't known if more is done than the text said: if one chip of two is
+    /// erased whole, or if there was no such text.
     pub fn percent(&self, erased: u64, programmed: u64) -> Option<u64> {
         let all = self.erased.saturating_add(self.programmed);
         if all == 0 || erased > self.erased || programmed > self.programmed {
@@ -90,7 +90,7 @@ impl PlanTotals {
         }
     }
 
-    /// Adds up a line.
+    /// Adds the numbers of a line.
     fn end_line(&mut self) {
         match self.action {
             Some(Action::Erase) if self.blanks == 1 => {

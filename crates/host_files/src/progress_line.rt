@@ -1,4 +1,4 @@
-//! A line on the terminal that says how far a call has come.
+//! A line on the terminal that shows how far a call has come.
 
 use crate::plan_totals::PlanTotals;
 use std::cell::Cell;
@@ -9,7 +9,7 @@ use std::time::{Duration, Instant};
 /// The least time between two texts of the line, in milliseconds.
 const INTERVAL: u64 = 100;
 
-/// Clears the line of the terminal on which the cursor stands.
+/// Clears the line of the terminal that the cursor is on.
 const CLEAR: &str = "\r\x1b[K";
 
 /// Goes back to the line that is shown, and clears it.
@@ -29,7 +29,7 @@ struct Shared {
 }
 
 impl Shared {
-    /// Whether the line may be rewritten by now.
+    /// Whether the line may be rewritten now.
     fn is_due(&self) -> bool {
         let Ok(now) = Instant::now(&self.rt) else {
             return false;
@@ -43,19 +43,19 @@ impl Shared {
         true
     }
 
-    /// What goes before a text of the line.
+    /// What comes before the text of the line.
     fn lead(&self) -> &'static str {
         if self.is_shown.get() { BACK } else { CLEAR }
     }
 
-    /// Rewrites the line by such a text, which goes to a new line at its end: so what ends the program anywhere leaves the terminal there. An
-    /// error of the terminal is passed over.
+    /// Rewrites the line with this text and then goes to a new line, so that the cursor is there if the program ends at any time. An
+    /// error of the terminal is ignored.
     fn put(&self, text: &str) {
         self.is_shown.set(true);
         let _shown = self.rt.stderr().write_all(text.as_bytes()).is_ok();
     }
 
-    /// Says how far the cells have come, where the line is due.
+    /// Shows how many cells are done, if the line is due.
     fn show_cells(&self) {
         if !self.is_due() {
             return;
@@ -79,7 +79,7 @@ impl Shared {
         }
     }
 
-    /// Says how far the trials have come, where the line is due.
+    /// Shows how many lists were tried, if the line is due.
     fn show_trials(&self) {
         if !self.is_due() {
             return;
@@ -94,7 +94,7 @@ impl Shared {
         }
     }
 
-    /// Clears the line, where it is shown.
+    /// Clears the line, if it is shown.
     fn wipe(&self) {
         if self.is_shown.get() {
             self.is_shown.set(false);
@@ -103,9 +103,9 @@ impl Shared {
     }
 }
 
-/// A line on standard error that counts the cells erased and programmed so far, of how many where a plan has passed, or the lists of calls that
-/// were tried, rewritten at most ten times a second. There is one only where standard error is a terminal, so that nothing else ever gets it.
-/// Those who hold it share it.
+/// A line on standard error that counts the cells erased and programmed so far, and how many there are if a plan has gone by; or the lists of
+/// calls that were tried. It is rewritten at most ten times a second. There is one only if standard error is a terminal, so that
+/// nothing else ever gets it. All holders share it.
 #[derive(Drop)]
 pub struct ProgressLine {
     shared: Option<Rc<Shared>>,
@@ -117,7 +117,7 @@ impl ProgressLine {
         ProgressLine { shared: None }
     }
 
-    /// A line on standard error, where that is a terminal and there is memory for it.
+    /// A line on standard error, if that is a terminal and there is memory for it.
     pub fn on_terminal(rt: HostRuntime) -> ProgressLine {
         if !rt.stderr().is_terminal() {
             return ProgressLine::none();
@@ -137,7 +137,7 @@ impl ProgressLine {
         }
     }
 
-    /// The same line, for another to hold.
+    /// A second handle on this line.
     pub fn share(&self) -> ProgressLine {
         match &self.shared {
             Some(shared) => ProgressLine {
@@ -174,7 +174,7 @@ impl ProgressLine {
         }
     }
 
-    /// Follows a piece of what is put on a stream: a plan in it says how many cells there are to erase and to program.
+    /// Follows a piece of text that goes to a stream: a plan in it says how many cells are to be erased and programmed.
     pub fn follow(&self, piece: &[u8]) {
         if let Some(shared) = &self.shared {
             let mut plan = shared.plan.get();
@@ -183,7 +183,7 @@ impl ProgressLine {
         }
     }
 
-    /// Counts a list that was tried, which made so many calls.
+    /// Counts one more list that was tried, with the number of its calls.
     pub fn tried(&self, calls: u64) {
         if let Some(shared) = &self.shared {
             shared.lists.set(shared.lists.get().saturating_add(1));
@@ -192,7 +192,7 @@ impl ProgressLine {
         }
     }
 
-    /// Clears the line, where it is shown: before anything else is put on a stream, and at the end.
+    /// Clears the line, if it is shown. This comes before anything else is put on a stream, and at the end.
     pub fn wipe(&self) {
         if let Some(shared) = &self.shared {
             shared.wipe();

@@ -6,16 +6,16 @@ use crate::file_id::FileId;
 /// What a command is about to do with its files.
 #[derive(Clone, Copy)]
 pub enum Purpose {
-    /// It only looks at them.
+    /// Only reads the files.
     Looks,
-    /// It goes on with the job in the job file, if one stands there.
+    /// Resumes the job in the job file, if there is one.
     GoesOn,
-    /// It may begin a job, in a job file that may not be there yet.
+    /// May begin a job, in a job file that may not exist yet.
     Begins,
 }
 
 impl Purpose {
-    /// Whether it changes the files. One that goes on finds no job in a job file that isn't there, and changes nothing.
+    /// Whether it changes the files. Resuming finds no job in a job file that doesn't exist, and then changes nothing.
     pub fn claims(self, job: Option<FileId>) -> bool
         ensures looks { self ≡ Purpose.Looks → result ≡ false }
         ensures goes_on { self ≡ Purpose.GoesOn → result ≡ is_some job }

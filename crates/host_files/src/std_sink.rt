@@ -8,7 +8,7 @@ use std::io::Print;
 use std::marker::Model;
 use stream_files::{Stream, StreamSink};
 
-/// A stream of this host. It doesn't tell what it has taken.
+/// A stream of this host. Contracts don't see what it has taken.
 #[derive(Drop)]
 struct HostStream<P: Print + Drop> {
     stream: P,
@@ -29,7 +29,7 @@ impl<P: Print + Drop> Stream for HostStream<P> {
     }
 }
 
-/// A standard stream. Each piece is written at once. It doesn't tell what it has taken. A contract sees how often it has failed.
+/// A standard stream. Each piece is written at once. Contracts don't see what it has taken, only how often it has failed.
 #[derive(Drop)]
 pub struct StdSink<P: Print + Drop> {
     sink: StreamSink<HostStream<P>>,
@@ -55,7 +55,7 @@ impl<P: Print + Drop> StdSink<P> {
         }
     }
 
-    /// Clears this line before each piece from now on, and has it follow the piece.
+    /// From now on, clears this line before each piece, and lets it follow the piece.
     pub fn wipe_first(&mut self, line: ProgressLine)
         ensures { self.new ≡ self.old }
     {

@@ -19,7 +19,7 @@ use Rattle.image_hex.specs.Hex.{hex, data_cells, IsHexFault}
 use Rattle.image_hex.specs.Clashes.{line_fault_of}
 use Rattle.image_hex.proofs.Apart.{consistent_data}
 
--- a kind that a line may have: no missing end record, and no want of memory
+-- a kind of fault that a single line may have: neither a missing end record nor out of memory
 abbrev pub IsKindOfLine : HexKind → Type 0
 IsKindOfLine NoEnd = ⊥
 IsKindOfLine OutOfMemory = ⊥
@@ -95,7 +95,7 @@ took_data reading before base offset bytes image is few laid =
       end_cells = tt;
     })
 
--- or that clashed
+-- a data record that clashed with an earlier one
 clash_as_line : (fault : ClashFault) (before : List Cell) (base : Base) (offset : ℕ) (bytes : List ℕ) →
     IsClashFault fault (first_clash before (data_cells base offset bytes))
     → IsLineFault hex (Ok (Some (Data offset bytes))) before base (line_fault_of fault)

@@ -16,7 +16,7 @@ hex_fault_is lines line hex_kind.NoEnd is other = inr (refl, is)
 hex_fault_is lines line hex_kind.OutOfMemory is other = absurd (other refl)
 hex_fault_is lines line kind is other = inl is
 
--- beside an image there is no fault but want of memory
+-- a text that has an image has no fault but out of memory
 pub hex_memory_alone : (lines : List (List ℕ)) (image : List Run) (line : ℕ) (kind : HexKind) → IsImageOfText hex lines image
     → IsHexFault lines line kind → kind ≡ hex_kind.OutOfMemory
 hex_memory_alone lines image line hex_kind.NotRecord one is = absurd (image_or_fault hex lines image line hex_kind.NotRecord one is)

@@ -77,7 +77,7 @@ two_image at at' xs ys before image apart is =
 length-front : (count : ℕ) (bytes xs : List ℕ) → xs ≡ take count bytes → length xs ≡ min count (length bytes)
 length-front count bytes xs is = ap length is ∙ length-take count bytes
 
--- the cells of a data record, up to where its addresses wrap and behind that
+-- the cells of a data record: those up to the address at which it wraps, and those after it
 pub two_pieces : (base : Base) (offset first room low : ℕ) (bytes : List ℕ) (count : ℕ) (xs ys : List ℕ) →
     ((k : ℕ) → k < room → address_of base (offset + k) ≡ first + k) → ((k : ℕ) → k < 256 → address_of base (offset + (room + k)) ≡ low + k)
     → length bytes ≤ 255 → count ≡ min room (length bytes) → xs ≡ take count bytes → ys ≡ drop count bytes →

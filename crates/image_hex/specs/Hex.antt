@@ -10,7 +10,7 @@ use Rattle.image_hex.specs.declared.record.HexRecord.{HexRecord}
 use Rattle.image_hex.specs.declared.record.HexRecord.TheVariants.{Data, End, Sets, Ignored}
 use Rattle.image_hex.specs.Record.{Reading, read_line}
 
--- the base behind a line, where `earlier` is the one before it; before the first line it is the upper half 0
+-- the base after a line that reads so, where `earlier` is the base before it; a text begins with the upper half 0
 abbrev pub base_behind : Reading → Base → Base
 base_behind (Ok None) earlier = earlier
 base_behind (Ok (Some (Data offset bytes))) earlier = earlier
@@ -19,13 +19,13 @@ base_behind (Ok (Some (Sets base))) earlier = base
 base_behind (Ok (Some Ignored)) earlier = earlier
 base_behind (Err fault) earlier = earlier
 
--- "Data Record": the address of the byte that stands `offset` behind a base. Behind an upper half addresses go on modulo
--- 2^32, and behind a segment they wrap within its 64 KiB.
+-- "Data Record": the address of the byte at an offset from a base. From an upper half, addresses continue modulo 2^32.
+-- In a segment they wrap within its 64 KiB.
 abbrev pub address_of : Base → ℕ → ℕ
 address_of (Upper half) offset = (half * 65536 + offset) % 4294967296
 address_of (Segment segment) offset = segment * 16 + offset % 65536
 
--- the bytes of a data record, in its own order
+-- the cells of a data record, in the order of its bytes
 abbrev pub data_cells : Base → ℕ → List ℕ → List Cell
 data_cells base offset [] = []
 data_cells base offset (byte ∷ bytes) = record { at = address_of base offset; byte = byte } ∷ data_cells base (offset + 1) bytes
@@ -42,7 +42,7 @@ is_end End = true
 is_end (Sets base) = false
 is_end Ignored = false
 
--- the format
+-- Intel HEX as a format of records
 abbrev pub hex : Format Base HexRecord HexKind
 hex = record {
   read = read_line;
@@ -54,7 +54,7 @@ hex = record {
   conflict = λ clash. Conflict clash.at clash.old clash.new;
 }
 
--- a fault of a text: want of memory, which has line 0, or what is at fault with its lines
+-- a fault of a text with its line; out of memory has line 0
 abbrev pub IsHexFault : List (List ℕ) → ℕ → HexKind → Type 0
 IsHexFault lines line NotRecord = IsFaultOfLine hex lines line NotRecord
 IsHexFault lines line BadDigit = IsFaultOfLine hex lines line BadDigit

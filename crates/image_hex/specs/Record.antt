@@ -9,17 +9,17 @@ use Rattle.image_hex.specs.declared.record.Base.TheVariants.{Upper, Segment}
 use Rattle.image_hex.specs.declared.record.HexRecord.{HexRecord}
 use Rattle.image_hex.specs.declared.record.HexRecord.TheVariants.{Data, End, Sets, Ignored}
 
--- what a line may say: nothing, a record or a fault
+-- what a line may read as: nothing, a record or a fault
 abbrev pub Reading : Type 0
 Reading = Result (Option HexRecord) HexKind
 
--- a number of two bytes, the high one first
+-- the number that two bytes hold, the high byte first
 abbrev pub word_of : List ℕ → ℕ
 word_of bytes = slice_index bytes 0 * 256 + slice_index bytes 1
 
--- section by section "Data Record", "End of File Record", "Extended Segment Address Record", "Start
--- Segment Address Record", "Extended Linear Address Record" and "Start Linear Address Record": the
--- types 0 to 5 and how much data each has
+-- the record types 0 to 5, with the number of data bytes that each must have. They follow the sections "Data Record", "End of
+-- File Record", "Extended Segment Address Record", "Start Segment Address Record", "Extended Linear Address Record" and
+-- "Start Linear Address Record".
 abbrev pub record_of : ℕ → ℕ → List ℕ → Reading
 record_of value offset bytes =
     if value == 0 then Ok (Some (Data offset bytes))
@@ -33,7 +33,7 @@ record_of value offset bytes =
 abbrev pub checksum_of : List ℕ → ℕ
 checksum_of bytes = (256 - sum bytes % 256) % 256
 
--- the bytes of a record: the count of its data, two bytes of offset, its type, its data and its checksum
+-- the bytes of a record: the count of data bytes, two bytes of offset, the type, the data and the checksum
 abbrev pub checked : List ℕ → Reading
 checked bytes =
     let last = length bytes - 1 in
@@ -41,7 +41,7 @@ checked bytes =
     let due = checksum_of (take last bytes) in
     if said == due then record_of (slice_index bytes 3) (word_of (drop 1 bytes)) (slice_range bytes 4 last) else Err (BadSum said due)
 
--- a line: a colon and the digits of a record's bytes, as many as its first byte counts
+-- the digits of a line after its colon: two for each byte of a record, as many bytes as the first byte asks for
 abbrev pub read_digits : List ℕ → Reading
 read_digits digits =
     if not (list_all is_hex_digit digits) then Err BadDigit

@@ -13,18 +13,18 @@ const ADDRESSES: u64 = 1 << 32;
 
 const SEGMENT: u64 = 1 << 16;
 
-/// Where the bytes of a data record go.
+/// Where the bytes of a data record go. Their addresses may wrap once.
 #[derive(Clone, Copy)]
 struct Way {
     /// The address of the first byte.
     first: u32,
-    /// How many bytes follow one another from there on.
+    /// How many bytes have addresses that follow one another from `first` on.
     room: u64,
-    /// The address of the byte behind them.
+    /// The address of the byte after those.
     low: u32,
 }
 
-/// Where the bytes go that stand behind a base from an offset on.
+/// Where the bytes at an offset from a base go.
 fn way_behind(base: Base, offset: u16) -> Way
     ensures straight { (k : ℕ) → k < result.room → address_of base (offset + k) ≡ result.first + k }
     ensures wrapped { (k : ℕ) → k < 256 → address_of base (offset + (result.room + k)) ≡ result.low + k }

@@ -1,35 +1,35 @@
 //! Why a text is no Intel HEX.
 use thiserror::Error;
 
-/// Why a text was refused, and at which line. Lines count from 1, and stand still at 4,294,967,295.
+/// Why a text was refused, and at which line. Lines count from 1; the count stops at 4,294,967,295.
 #[derive(Clone, Copy, Debug, PartialEq, Eq, Error)]
 #[error("line {line}: {kind}")]
 pub struct HexFault {
     /// The line; 0 where no memory was left, or the text is empty.
     pub line: u32,
-    /// What is at fault with it.
+    /// What is wrong with that line.
     pub kind: HexKind,
 }
 
-/// What is at fault, printed by its name and its fields.
+/// What is wrong, printed by its name and its fields.
 #[derive(Clone, Copy, Debug, PartialEq, Eq, Error)]
 pub enum HexKind {
     /// The line doesn't begin with a colon.
     #[error("NotRecord")]
     NotRecord,
-    /// A byte behind the colon is no hexadecimal digit.
+    /// A byte after the colon is no hexadecimal digit.
     #[error("BadDigit")]
     BadDigit,
     /// There are fewer than 10 digits, or not 10 and two for each byte that the record counts.
     #[error("BadLength")]
     BadLength,
-    /// The checksum is another than the one that the other bytes ask for.
+    /// The checksum isn't the one that the other bytes ask for.
     #[error("BadSum {said:02X} {due:02X}")]
     BadSum { said: u8, due: u8 },
     /// The type is above 5, or asks for another number of data bytes.
     #[error("BadType {value}")]
     BadType { value: u8 },
-    /// A record before has another byte at this address.
+    /// An earlier record has another byte at this address.
     #[error("Conflict {at:08X} {old:02X} {new:02X}")]
     Conflict { at: u32, old: u8, new: u8 },
     /// The text has no end record.

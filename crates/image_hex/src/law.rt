@@ -5,8 +5,8 @@ ghost use Rattle.record_lines.specs.Format.{IsImageOfText};
 ghost use Rattle.image_hex.specs.declared.fault.HexKind.{HexKind};
 ghost use Rattle.image_hex.specs.Hex.{hex, IsHexFault};
 
-/// A text of Intel HEX has one image at most, it has no fault where it has an image, and it has one fault at most. Want of memory
-/// is no fault of a text. So a text with an image is read as it, or there was no memory.
+/// A text of Intel HEX has at most one image and at most one fault. A text with an image has no fault, but reading it can run
+/// out of memory.
 pub fn hex_has_one_reading()
     ensures image { (lines : List (List ℕ)) (a b : List Run) → IsImageOfText hex lines a → IsImageOfText hex lines b → a ≡ b }
     ensures apart { (lines : List (List ℕ)) (image : List Run) (line : ℕ) (kind : HexKind) → IsImageOfText hex lines image → IsHexFault lines line kind

@@ -10,8 +10,8 @@ use byte_map::ByteMap;
 use record_lines::{TextFault, read_records};
 use std::alloc::Global;
 
-/// Reads Intel HEX: the image is the union of the data records before the first end record. What
-/// follows that record is left unread. A fault is the first one of the first line at fault.
+/// Reads Intel HEX. The image is the union of the data records before the first end record; what follows that record is left
+/// unread. If the text is refused, the fault is the first one of the first wrong line.
 pub fn read_hex(alloc: Global, text: &[u8]) -> Result<ByteMap, HexFault>
     ensures ok { IfOk result (IsImageOfText hex (lines_of text.now)) }
     ensures err { IfErr result (λ fault. IsHexFault (lines_of text.now) fault.line fault.kind) }
@@ -22,7 +22,7 @@ pub fn read_hex(alloc: Global, text: &[u8]) -> Result<ByteMap, HexFault>
     }
 }
 
-/// A fault of the text with its line; want of memory has none.
+/// A fault of the text with its line. Out of memory has line 0.
 fn fault_of(fault: TextFault<HexKind>) -> HexFault
     ensures { (lines : List (List ℕ)) → IsTextFault hex lines fault → IsHexFault lines result.line result.kind }
 {

@@ -6,7 +6,7 @@ use crate::fault::HexKind;
 use octets::hex_pair;
 use record_lines::{Payload, all_digits, byte_sum, decode};
 
-/// From where the offsets of data records count.
+/// The base from which the offsets of data records count.
 #[derive(Clone, Copy)]
 pub enum Base {
     /// The upper half of an address.
@@ -18,11 +18,11 @@ pub enum Base {
 /// A record, as far as an image needs it.
 #[derive(Drop)]
 pub enum HexRecord {
-    /// Bytes, the first one so far behind the base.
+    /// Data bytes, with the offset of the first one from the base.
     Data { offset: u16, bytes: Payload },
     /// The end of the text.
     End,
-    /// Another base.
+    /// A record that sets another base.
     Sets(Base),
     /// A start address.
     Ignored,
@@ -41,7 +41,7 @@ pub fn parse(line: &[u8]) -> Result<Option<HexRecord>, HexKind>
     parse_digits(&line[1..])
 }
 
-/// What the digits behind a colon say.
+/// What the digits after a colon read as.
 fn parse_digits(digits: &[u8]) -> Result<Option<HexRecord>, HexKind>
     ensures { result ≡ read_digits digits.now }
 {
@@ -61,7 +61,7 @@ fn parse_digits(digits: &[u8]) -> Result<Option<HexRecord>, HexKind>
     check(bytes)
 }
 
-/// A record from its bytes, if its checksum and its type are right.
+/// The record that some bytes hold, if its checksum and its type are right.
 fn check(bytes: &[u8]) -> Result<Option<HexRecord>, HexKind>
     requires least { 5 ≤ length bytes.now }
     requires most { length bytes.now ≤ 260 }
@@ -78,7 +78,7 @@ fn check(bytes: &[u8]) -> Result<Option<HexRecord>, HexKind>
     record(bytes[3], offset, &bytes[4..last])
 }
 
-/// A record of a type.
+/// The record of this type with this offset and these data bytes.
 fn record(value: u8, offset: u16, bytes: &[u8]) -> Result<Option<HexRecord>, HexKind>
     requires { length bytes.now ≤ 255 }
     ensures { result ≡ record_of value offset bytes.now }

@@ -1,4 +1,4 @@
--- A file of any form has one image or one fault, but for want of memory.
+-- A file of any form has one image, or one fault besides out of memory.
 use Rattle.std.proofs.Common.{◌≡◌, ◌≢◌, ap, subst, refl, ℕ, Bool, true, false, List, Option}
 use Rattle.byte_map.specs.Image.{Run}
 use Rattle.image_set.proofs.FileLemmas.{one_image, image_or_fault, one_fault}
@@ -14,7 +14,7 @@ one_by false raw_at bytes a b one two = one_image raw_at bytes a b one two
 pub one_any_image : (raw_at : Option ℕ) (bytes : List ℕ) (a b : List Run) → IsAnyImage raw_at bytes a → IsAnyImage raw_at bytes b → a ≡ b
 one_any_image raw_at bytes a b one two = one_by (is_uf2 raw_at bytes) raw_at bytes a b one two
 
--- an image of a file that is read so
+-- the image of a file that is read as UF2, or of one that isn't
 by : (uf2 : Bool) (raw_at : Option ℕ) (bytes : List ℕ) (image : List Run) → is_uf2 raw_at bytes ≡ uf2 → IsAnyImage raw_at bytes image →
     IsImageBy uf2 raw_at bytes image
 by uf2 raw_at bytes image is any = subst (λ (b : Bool). IsImageBy b raw_at bytes image) is any

@@ -18,7 +18,7 @@ from_either x y union a byte None is new_is byte_is = inr (sym (is.same a ∙ by
 from_either x y union a byte (Some new) is new_is byte_is = inl
     (new_is ∙ sym (is.same a ∙ byte_at-append y x a ∙ ap (λ (o : Option ℕ). or_else o (byte_at x a)) new_is) ∙ byte_is)
 
--- and each of theirs is the union's
+-- each byte of either image is the union's
 pub from_new : (x y union : List Run) (a byte : ℕ) → IsUnion x y union → byte_at y a ≡ Some byte → byte_at union a ≡ Some byte
 from_new x y union a byte is byte_is = is.same a ∙ byte_at-append y x a ∙ ap (λ (o : Option ℕ). or_else o (byte_at x a)) byte_is
 

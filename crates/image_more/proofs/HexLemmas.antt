@@ -117,7 +117,7 @@ module _ (lines : List (List ℕ)) where
       (λ a. union a ∙ row_moved row rows cells a are.2)
       (data_step row low m (later ++ end_line ∷ []) cells are.1 are.0 none there)
 
--- Its lines have no blanks.
+-- The lines of a text of Intel HEX have no blanks.
 
 abbrev pub AreMarks : List ℕ → Type 0
 AreMarks line = All IsMark line

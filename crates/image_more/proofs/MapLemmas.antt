@@ -12,7 +12,7 @@ use Rattle.record_lines.proofs.CellLemmas.{same_number, held-append, held-none_a
 use Rattle.image_more.specs.Rows.{with_byte, run_rows, rows_of}
 use Rattle.image_more.proofs.DigitLemmas.{IsByte}
 
--- A row: some bytes at addresses of which only the first may be a multiple of 16.
+-- A row: some bytes, where only the first address may be a multiple of 16.
 pub record IsRow (row : Run) : Type 0 where
   pub some : 1 ≤ length row.bytes
   pub fits : row.at % 16 + length row.bytes ≤ 16

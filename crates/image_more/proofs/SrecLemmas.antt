@@ -68,7 +68,7 @@ module _ (lines : List (List ℕ)) where
       (λ a. union a ∙ row_moved row rows cells a are.2)
       (row_step row low n (rows_lines Srec rows ++ end_line ∷ []) seen cells are.1 are.0 none h)
 
--- Its lines have no blanks.
+-- The lines of a text of S-records have no blanks.
 
 line_marks : (row : Run) → IsRow row → AreMarks (srec_line row)
 unfolding srec_line

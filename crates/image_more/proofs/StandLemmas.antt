@@ -7,7 +7,7 @@ use Rattle.record_lines.specs.Cells.{Cell, IsImageOf}
 use Rattle.record_lines.specs.Format.{Format, line_at, context_before, line_cells, line_ends, line_fault, cells_before, fault_at, ends_at, AreRight}
 use Rattle.record_lines.specs.Format.{IsImageOfText}
 
--- the lines before a place are right, c is known behind them, they have these cells, and these lines are left
+-- the first n lines are right, c is known after them, they have these cells, and `rest` are the lines left
 pub record Stands {C R F : Type 0} (f : Format C R F) (lines : List (List ℕ)) (n : ℕ) (rest : List (List ℕ)) (c : C) (cells : List Cell) : Type 0 where
   pub rest_is : drop n lines ≡ rest
   pub before : AreRight f lines n

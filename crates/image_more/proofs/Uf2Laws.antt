@@ -1,4 +1,4 @@
--- A UF2 file has one image or one fault, but for want of memory.
+-- A UF2 file has one image, or one fault besides out of memory.
 use Rattle.std.proofs.Common.{◌≡◌, ◌≢◌, ◌<◌, ◌+◌, ◌-◌, ◌∙◌, ◌⊎◌, inl, inr, ⊎_elim, sym, ap, subst, refl, arith, ℕ, zero, suc, Bool}
 use Rattle.std.proofs.Common.{cond, List, [], ◌∷◌, length, Option, Some, None}
 use Rattle.std.specs.List.{All}
@@ -79,7 +79,7 @@ uf2_memory_alone bytes image (Conflict at old new) one two = image_or_refused by
 uf2_memory_alone bytes image (PastEnd at) one two = image_or_refused bytes image (PastEnd at) one two
 uf2_memory_alone bytes image OutOfMemory one two = refl
 
--- A file has one fault but for want of memory.
+-- A file has one fault besides out of memory.
 
 -- a block is refused for one reason
 one_block_fault : (number : ℕ) (block : List ℕ) (image : List Run) (a b : Uf2Fault) → IsBlockFault number block image a → IsBlockFault number block image b

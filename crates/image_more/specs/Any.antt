@@ -14,7 +14,7 @@ abbrev pub is_uf2 : Option ℕ → List ℕ → Bool
 is_uf2 None bytes = starts_with nat_eq bytes (codes "UF2\n")
 is_uf2 (Some at) bytes = false
 
--- the image of a file that is read as UF2, or by its other forms
+-- the image of a file, read as UF2 or as one of the other forms
 abbrev pub IsImageBy : Bool → Option ℕ → List ℕ → List Run → Type 0
 IsImageBy true raw_at bytes image = IsUf2Image bytes image
 IsImageBy false raw_at bytes image = IsImage raw_at bytes image
@@ -22,7 +22,7 @@ IsImageBy false raw_at bytes image = IsImage raw_at bytes image
 abbrev pub IsAnyImage : Option ℕ → List ℕ → List Run → Type 0
 IsAnyImage raw_at bytes image = IsImageBy (is_uf2 raw_at bytes) raw_at bytes image
 
--- why a file stands for none
+-- why a file of any form is refused
 abbrev pub IsAnyFault : Option ℕ → List ℕ → AnyFault → Type 0
 IsAnyFault raw_at bytes (Image fault) = (is_uf2 raw_at bytes ≡ false) × IsFault raw_at bytes fault × (fault ≢ image_fault.OutOfMemory)
 IsAnyFault raw_at bytes (Uf2 fault) = (is_uf2 raw_at bytes ≡ true) × IsUf2Fault bytes fault × (fault ≢ uf2_fault.OutOfMemory)

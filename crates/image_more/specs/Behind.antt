@@ -1,4 +1,4 @@
--- What is known behind some rows.
+-- What is known after some rows.
 use Rattle.std.specs.Prelude.{List, [], ◌∷◌}
 use Rattle.byte_map.specs.Image.{Run}
 use Rattle.image_more.specs.declared.form.RowForm.{RowForm}

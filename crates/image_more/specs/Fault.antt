@@ -8,13 +8,13 @@ use Rattle.image_more.specs.declared.fault.AnyFault.TheVariants as any
 use Rattle.image_more.specs.declared.fault.Uf2Fault.{Uf2Fault}
 use Rattle.image_more.specs.declared.fault.Uf2Fault.TheVariants.{Conflict, PastEnd, OutOfMemory}
 
--- why a payload wasn't added
+-- why the payload of a block wasn't added, as a fault of its file
 abbrev pub fault_of : LayFault → Uf2Fault
 fault_of (lay.Conflict at old new) = Conflict at old new
 fault_of (lay.PastEnd at) = PastEnd at
 fault_of lay.OutOfMemory = OutOfMemory
 
--- why a file that isn't UF2, or its union with others, stands for no image
+-- why a file that isn't UF2, or a union of images, is refused, as a fault of a file of any form
 abbrev pub any_of : ImageFault → AnyFault
 any_of image.NoForm = any.Image image.NoForm
 any_of (image.Hex fault) = any.Image (image.Hex fault)

@@ -4,7 +4,7 @@ use Rattle.byte_map.specs.Image.{Run, byte_at}
 use Rattle.image_set.specs.Union.{IsUnion}
 use Rattle.image_more.specs.Any.{IsAnyImage}
 
--- the union of the images before a file, and the file's own
+-- the union of the images before a file and the file's own image
 pub record IsNextUnion (IsBefore : List Run → Type 0) (raw_at : Option ℕ) (file : List ℕ) (whole : List Run) : Type 0 where
   pub before : List Run
   pub image : List Run

@@ -3,7 +3,7 @@ use Rattle.std.specs.Prelude.{ℕ, ◌+◌, ◌%◌, ◌==◌, Bool, true, false
 use Rattle.std.specs.List.{flat_map}
 use Rattle.byte_map.specs.Image.{Run}
 
--- a byte before some rows: in the first of them, or in a row of its own where that one begins at a multiple of 16 or there is none
+-- rows with one more byte before them: in the first row, or in a row of its own where the first begins at a multiple of 16 or is missing
 abbrev pub with_byte : ℕ → ℕ → Bool → List Run → List Run
 with_byte at byte true rows = record { at = at; bytes = byte ∷ [] } ∷ rows
 with_byte at byte false [] = record { at = at; bytes = byte ∷ [] } ∷ []

@@ -10,42 +10,42 @@ use Rattle.image_more.specs.declared.form.RowForm.{RowForm}
 use Rattle.image_more.specs.declared.form.RowForm.TheVariants.{Hex, Srec}
 use Rattle.image_more.specs.Rows.{rows_of}
 
--- two digits a byte, the high one first, with capital letters
+-- the digits of bytes: two a byte, the high one first, with capital letters
 abbrev pub digits : List ℕ → List ℕ
 digits [] = []
 digits (byte ∷ bytes) = upper_digit (byte / 16) ∷ upper_digit (byte % 16) ∷ digits bytes
 
--- Intel HEX: the bytes of a record but for its checksum are the count of its data, two bytes of offset, its type and its data
+-- the bytes of a record of Intel HEX before its checksum: the count of its data, two bytes of offset, its type and its data
 abbrev pub hex_bytes : ℕ → ℕ → List ℕ → List ℕ
 hex_bytes kind offset bytes = length bytes ∷ offset / 256 ∷ offset % 256 ∷ kind ∷ bytes
 
--- its line is a colon and the digits of its bytes, the checksum last
+-- the line of a record of Intel HEX: a colon and the digits of its bytes, the checksum last
 unfoldable pub hex_line : ℕ → ℕ → List ℕ → List ℕ
 hex_line kind offset bytes = 58 ∷ digits (hex_bytes kind offset bytes ++ hex_record.checksum_of (hex_bytes kind offset bytes) ∷ [])
 
--- the record of type 04 with an upper half
+-- the line of the record of type 04, which holds the upper half of the addresses
 abbrev pub upper_line : ℕ → List ℕ
 upper_line upper = hex_line 4 0 (upper / 256 ∷ upper % 256 ∷ [])
 
--- that record where the upper half is the first, or another than before
+-- the line of the record of type 04, where the upper half is the first or differs from the one before; otherwise no line
 abbrev pub upper_lines : Option ℕ → ℕ → List (List ℕ)
 upper_lines None upper = upper_line upper ∷ []
 upper_lines (Some before) upper = if before == upper then [] else upper_line upper ∷ []
 
--- S-records: the bytes of an S3 record but for its checksum are the count of the bytes behind it, four bytes of address and its data
+-- the bytes of an S3 record before its checksum: the count of the bytes that follow, four bytes of address, and the data
 abbrev pub srec_bytes : Run → List ℕ
 srec_bytes row = (length row.bytes + 5) ∷ row.at / 16777216 ∷ row.at / 65536 % 256 ∷ row.at / 256 % 256 ∷ row.at % 256 ∷ row.bytes
 
--- its line is `S3` and the digits of its bytes, the checksum last
+-- the line of an S3 record: `S3` and the digits of its bytes, the checksum last
 unfoldable pub srec_line : Run → List ℕ
 srec_line row = 83 ∷ 51 ∷ digits (srec_bytes row ++ srec_record.checksum_of (srec_bytes row) ∷ [])
 
--- the lines of a row. Intel HEX knows the upper half of the row before it.
+-- the lines of a row. For Intel HEX they depend on the upper half of the row before it.
 abbrev pub row_lines : RowForm → Run → List (List ℕ)
 row_lines (Hex upper) row = upper_lines upper (row.at / 65536) ++ hex_line 0 (row.at % 65536) row.bytes ∷ []
 row_lines Srec row = srec_line row ∷ []
 
--- what is known behind it
+-- how the next row is written, after this one
 abbrev pub behind : RowForm → Run → RowForm
 behind (Hex upper) row = Hex (Some (row.at / 65536))
 behind Srec row = Srec

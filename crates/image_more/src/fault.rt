@@ -6,16 +6,16 @@ use thiserror::Error;
 /// Why a file is no UF2 image. Blocks count from 1.
 #[derive(Clone, Copy, Debug, PartialEq, Eq, Error)]
 pub enum Uf2Fault {
-    /// The file is empty, or so many bytes are no whole number of blocks of 512 bytes.
+    /// The file is empty, or its length in bytes isn't a whole number of blocks of 512 bytes.
     #[error("BadLength {len}")]
     BadLength { len: u64 },
-    /// One of the three magic numbers of this block is another.
+    /// One of the three magic numbers of this block is wrong.
     #[error("BadMagic {block}")]
     BadMagic { block: u64 },
-    /// This block says that its payload has so many bytes, more than 476.
+    /// This block gives the size of its payload as more than 476 bytes.
     #[error("BadSize {block} {size}")]
     BadSize { block: u64, size: u32 },
-    /// A block before has another byte at this address.
+    /// An earlier block has another byte at this address.
     #[error("Conflict {at:08X} {old:02X} {new:02X}")]
     Conflict { at: u32, old: u8, new: u8 },
     /// The payload from this address on goes past the last address, 0xFFFF_FFFF.
@@ -41,13 +41,13 @@ impl From<LayFault> for Uf2Fault {
     }
 }
 
-/// Why a file of any form is refused. Want of memory is this type's own variant, and never stands within another.
+/// Why a file of any form is refused. Out of memory is always this type's own variant, and never inside another.
 #[derive(Clone, Copy, Debug, PartialEq, Eq, Error)]
 pub enum AnyFault {
-    /// The file, which isn't UF2, stands for no image.
+    /// The file isn't UF2 and stands for no image.
     #[error("{0}")]
     Image(ImageFault),
-    /// The file is no UF2 image.
+    /// The file is UF2 and stands for no image.
     #[error("Uf2 {0}")]
     Uf2(Uf2Fault),
     /// No memory was left.

@@ -5,14 +5,14 @@ ghost use Rattle.image_more.specs.Texts.{behind};
 /// How the next row is written as lines.
 #[derive(Clone, Copy)]
 pub enum RowForm {
-    /// As Intel HEX, behind a row with this upper half of its address, or as the first row.
+    /// Intel HEX: the first row, or one after a row with this upper half of its address.
     Hex { upper: Option<u16> },
-    /// As an S-record.
+    /// S-records.
     Srec,
 }
 
 impl RowForm {
-    /// How the row behind one from `at` on is written.
+    /// How the row after one of these bytes from `at` on is written.
     pub fn behind(self, at: u32, bytes: &[u8]) -> RowForm
         ensures { result ≡ behind self (record { at = at; bytes = bytes.now }) }
     {

@@ -13,7 +13,7 @@ ghost use Rattle.image_more.specs.Uf2.{IsUf2Image, IsUf2Fault};
 ghost use Rattle.image_more.specs.declared.fault.AnyFault.{AnyFault};
 ghost use Rattle.image_more.specs.declared.fault.Uf2Fault.{Uf2Fault};
 
-/// The text of a map is read as that map and as no other, by the relation that the readers keep.
+/// The text of a map is read as that map and as no other, by the relation that the readers' contracts state.
 pub fn texts_are_read_back()
     ensures hex { (map : List Run) → IsByteMap map → IsImageOfText hex (lines_of (hex_text map)) map }
     ensures hex_alone { (map other : List Run) → IsByteMap map → IsImageOfText hex (lines_of (hex_text map)) other → other ≡ map }
@@ -21,8 +21,8 @@ pub fn texts_are_read_back()
     ensures srec_alone { (map other : List Run) → IsByteMap map → IsImageOfText srec (lines_of (srec_text map)) other → other ≡ map }
 {}
 
-/// A file that is the text of a map stands for that map and for no other, without an address for raw bytes: its first byte tells its
-/// form.
+/// A file that is the text of a map stands for that map and for no other, if no address is given for raw bytes: its first byte
+/// shows its form.
 pub fn files_of_texts_are_their_maps()
     ensures hex { (map : List Run) → IsByteMap map → IsAnyImage None (hex_text map) map }
     ensures hex_alone { (map other : List Run) → IsByteMap map → IsAnyImage None (hex_text map) other → other ≡ map }
@@ -30,14 +30,14 @@ pub fn files_of_texts_are_their_maps()
     ensures srec_alone { (map other : List Run) → IsByteMap map → IsAnyImage None (srec_text map) other → other ≡ map }
 {}
 
-/// A UF2 file stands for one image at most, and one that stands for an image has no fault but want of memory.
+/// A UF2 file stands for at most one image. One that stands for an image has no fault but out of memory.
 pub fn uf2_files_have_one_image()
     ensures image { (bytes : List ℕ) (one two : List Run) → IsUf2Image bytes one → IsUf2Image bytes two → one ≡ two }
     ensures alone { (bytes : List ℕ) (image : List Run) (fault : Uf2Fault) → IsUf2Image bytes image → IsUf2Fault bytes fault → fault ≡ Uf2Fault.OutOfMemory }
 {}
 
-/// A file of any form stands for one image at most, one that stands for an image has no fault but want of memory, and a file has one fault
-/// at most beside that.
+/// A file of any form stands for at most one image. One that stands for an image has no fault but out of memory, and each file has
+/// at most one fault besides that.
 pub fn files_of_any_form_have_one_image()
     ensures image { (raw_at : Option ℕ) (bytes : List ℕ) (one two : List Run) → IsAnyImage raw_at bytes one → IsAnyImage raw_at bytes two → one ≡ two }
     ensures alone { (raw_at : Option ℕ) (bytes : List ℕ) (image : List Run) (fault : AnyFault) → IsAnyImage raw_at bytes image → IsAnyFault raw_at bytes fault

@@ -161,7 +161,7 @@ memory_left : (fault : ImageFault) → (fault ≢ OutOfMemory → ⊥) → fault
 memory_left OutOfMemory is = refl
 memory_left fault is = absurd (is (λ same. cc))
 
--- a file with an image has no fault but want of memory
+-- a file with an image has no fault but out of memory
 pub memory_alone : (raw_at : Option ℕ) (bytes : List ℕ) (image : List Run) (fault : ImageFault) → IsImage raw_at bytes image → IsFault raw_at bytes fault →
     fault ≡ OutOfMemory
 memory_alone raw_at bytes image fault one two = memory_left fault (image_or_fault raw_at bytes image fault one two)

@@ -33,7 +33,7 @@ or_swap (Some x) (Some y) same = ap (λ (n : ℕ). Some n) (same x y refl refl)
 union_at : (x y union : List Run) (a : ℕ) → IsUnion x y union → byte_at union a ≡ or_else (byte_at y a) (byte_at x a)
 union_at x y union a is = is.same a ∙ byte_at-append y x a
 
--- a byte of the one behind is the union's, where both agree
+-- where two images agree, each byte of the second one is the union's
 has_byte : (x y union : List Run) (a old : ℕ) → IsUnion x y union → byte_at y a ≡ Some old → byte_at union a ≡ Some old
 has_byte x y union a old is old_is = union_at x y union a is ∙ ap (λ (o : Option ℕ). or_else o (byte_at x a)) old_is
 

@@ -15,11 +15,11 @@ abbrev pub text_form : Option ℕ → Option Form
 text_form None = None
 text_form (Some first) = if first == 58 then Some Hex else if first == 83 then Some Srec else None
 
--- the form of a file: an ELF file begins with the magic bytes (System V ABI, chapter 4, "ELF Identification")
+-- the form of a file by its bytes: an ELF file begins with the magic bytes (System V ABI, chapter 4, "ELF Identification")
 abbrev pub file_form : List ℕ → Option Form
 file_form bytes = if starts_with nat_eq bytes magic then Some Elf else text_form (find (λ byte. not (is_blank byte)) bytes)
 
--- where an address is given the bytes are raw, whatever they are
+-- the form of a file: raw bytes where an address is given for them, whatever they are
 abbrev pub form_of : Option ℕ → List ℕ → Option Form
 form_of None bytes = file_form bytes
 form_of (Some at) bytes = Some (Raw at)

@@ -5,11 +5,11 @@ use Rattle.byte_map.specs.Image.{Run, byte_at}
 use Rattle.image_set.specs.declared.fault.ImageFault.{ImageFault}
 use Rattle.image_set.specs.declared.fault.ImageFault.TheVariants.{NoForm, Hex, Srec, Elf, Conflict, PastEnd, OutsideDevice, EmptyImage, OutOfMemory}
 
--- whether a range, its first address and how many it has, holds an address
+-- whether an address is in a range, which is a first address and a number of addresses
 abbrev pub is_in_range : ℕ × ℕ → ℕ → Bool
 is_in_range range a = nat_le range.0 a && nat_lt a (range.0 + range.1)
 
--- whether one of some ranges does
+-- whether an address is in one of some ranges
 abbrev pub is_inside : List (ℕ × ℕ) → ℕ → Bool
 is_inside ranges a = list_any (λ range. is_in_range range a) ranges
 
@@ -31,7 +31,7 @@ pub record IsOutside (from end : ℕ) (ranges : List (ℕ × ℕ)) (at : ℕ) : 
   pub outside : is_inside ranges at ≡ false
   pub first : (a : ℕ) → from ≤ a → a < at → IsTrue (is_inside ranges a)
 
--- why an image doesn't lie in ranges; whether it is empty comes first
+-- why an image is refused for some ranges: it is empty, or else it has a byte outside them
 abbrev pub IsPlaceFault : List Run → List (ℕ × ℕ) → ImageFault → Type 0
 IsPlaceFault image ranges NoForm = ⊥
 IsPlaceFault image ranges (Hex fault) = ⊥

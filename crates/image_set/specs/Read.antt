@@ -16,7 +16,7 @@ use Rattle.image_set.specs.declared.fault.ImageFault.TheVariants.{NoForm, Hex, S
 use Rattle.image_set.specs.Form.{form_of}
 use Rattle.image_set.specs.Segments.{IsElfImage, IsElfFault, IsFirstRefused}
 
--- the image of a file of a form; raw bytes are one run
+-- the image of a file of a known form; raw bytes are one run
 abbrev pub IsImageOfForm : Option Form → List ℕ → List Run → Type 0
 IsImageOfForm None bytes image = ⊥
 IsImageOfForm (Some (form.Raw at)) bytes image = Lays (record { at = at; bytes = bytes }) [] image
@@ -24,7 +24,7 @@ IsImageOfForm (Some form.Elf) bytes image = IsElfImage bytes image
 IsImageOfForm (Some form.Hex) bytes image = IsImageOfText hex (lines_of bytes) image
 IsImageOfForm (Some form.Srec) bytes image = IsImageOfText srec (lines_of bytes) image
 
--- a run that goes past 2^32
+-- a run of the file goes past 2^32, and this is its first address
 abbrev pub GoesPastEnd : Option Form → List ℕ → ℕ → Type 0
 GoesPastEnd None bytes at = ⊥
 GoesPastEnd (Some (form.Raw from)) bytes at = IsLayFault (record { at = from; bytes = bytes }) [] (lay.PastEnd at)
@@ -32,7 +32,7 @@ GoesPastEnd (Some form.Elf) bytes at = IsFirstRefused bytes (PastEnd at)
 GoesPastEnd (Some form.Hex) bytes at = ⊥
 GoesPastEnd (Some form.Srec) bytes at = ⊥
 
--- why a file of a form is refused
+-- why a file of a known form is refused
 abbrev pub IsFaultOfForm : Option Form → List ℕ → ImageFault → Type 0
 IsFaultOfForm f bytes NoForm = f ≡ None
 IsFaultOfForm f bytes (Hex fault) = (f ≡ Some form.Hex) × IsHexFault (lines_of bytes) fault.line fault.kind × (fault.kind ≢ hex_kind.OutOfMemory)
@@ -48,6 +48,6 @@ IsFaultOfForm f bytes OutOfMemory = Unit {0}
 abbrev pub IsImage : Option ℕ → List ℕ → List Run → Type 0
 IsImage raw_at bytes image = IsImageOfForm (form_of raw_at bytes) bytes image
 
--- why it stands for none
+-- why a file is refused, with or without an address for raw bytes
 abbrev pub IsFault : Option ℕ → List ℕ → ImageFault → Type 0
 IsFault raw_at bytes fault = IsFaultOfForm (form_of raw_at bytes) bytes fault

@@ -5,19 +5,19 @@ use image_hex::HexFault;
 use image_srec::SrecFault;
 use thiserror::Error;
 
-/// Why an image is refused. Want of memory is this type's own variant, and never stands within another.
+/// Why an image is refused. Out of memory is always this type's own variant, and never inside another.
 #[derive(Clone, Copy, Debug, PartialEq, Eq, Error)]
 pub enum ImageFault {
     /// The file begins like none of the forms.
     #[error("NoForm")]
     NoForm,
-    /// The file is no Intel HEX.
+    /// The file is refused as Intel HEX.
     #[error("Hex {0}")]
     Hex(HexFault),
-    /// The file is no S-records.
+    /// The file is refused as S-records.
     #[error("Srec {0}")]
     Srec(SrecFault),
-    /// The file, or a segment of it, is no ELF file for Arm.
+    /// The file, or a segment of it, is refused as ELF for Arm.
     #[error("Elf {0}")]
     Elf(ElfFault),
     /// Two segments, or two images, have unequal bytes at this address.

@@ -8,7 +8,7 @@ const MAGIC: [u8; 4] = [0x7F, b'E', b'L', b'F'];
 /// How a file stands for an image.
 #[derive(Clone, Copy)]
 pub enum Form {
-    /// Its bytes are those of the image, from an address on.
+    /// The bytes of the file are those of the image, from this address on.
     Raw { at: u32 },
     /// An ELF file.
     Elf,
@@ -35,7 +35,7 @@ pub fn form_of(raw_at: Option<u32>, bytes: &[u8]) -> Option<Form>
     }
 }
 
-/// The first byte that is no blank.
+/// The first byte that isn't blank.
 fn first_mark(bytes: &[u8]) -> Option<u8>
     ensures { result ≡ find (λ byte. not (is_blank byte)) bytes.now }
 {

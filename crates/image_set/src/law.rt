@@ -10,13 +10,13 @@ pub fn files_have_one_image()
     ensures { (raw_at : Option ℕ) (bytes : List ℕ) (one two : List Run) → IsImage raw_at bytes one → IsImage raw_at bytes two → one ≡ two }
 {}
 
-/// A file that stands for an image has no fault, but for want of memory.
+/// A file that stands for an image has no fault but out of memory.
 pub fn images_have_no_fault()
     ensures { (raw_at : Option ℕ) (bytes : List ℕ) (image : List Run) (fault : ImageFault) → IsImage raw_at bytes image
         → IsFault raw_at bytes fault → fault ≡ OutOfMemory }
 {}
 
-/// A file has at most one fault, but for want of memory.
+/// A file has at most one fault besides out of memory.
 pub fn files_have_one_fault()
     ensures { (raw_at : Option ℕ) (bytes : List ℕ) (one two : ImageFault) → IsFault raw_at bytes one → IsFault raw_at bytes two → one ≢ OutOfMemory
         → two ≢ OutOfMemory → one ≡ two }

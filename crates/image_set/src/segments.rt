@@ -15,9 +15,9 @@ use std::alloc::Global;
 /// The most bytes that the loaded segments of a file may have in all: 64 MiB.
 const MOST_BYTES: usize = 1 << 26;
 
-/// Reads an ELF file: the image is the union of its loaded segments, each its bytes in the file from its physical
-/// address on. They are added in the order of the file, and the first check that fails is answered. Where they have
-/// more than 64 MiB in all, that is want of memory.
+/// Reads an ELF file. The image is the union of its loaded segments: the bytes of each in the file, from its physical address
+/// on. Segments are added in the order of the file, and the first check that fails is answered. More than 64 MiB in all is
+/// answered as out of memory.
 pub fn read_elf(alloc: Global, bytes: &[u8]) -> Result<ByteMap, ImageFault>
     ensures ok { IfOk result (IsImageOfForm (Some form.Elf) bytes.now) }
     ensures size { IfOk result (λ _. size_before bytes.now (e_phnum bytes.now) ≤ 67108864) }

@@ -22,7 +22,7 @@ use Rattle.image_srec.specs.Record.{Reading, read_line, read_digits, checked, ch
 use Rattle.image_srec.specs.Srec.{srec, refused, IsSrecFault}
 use Rattle.image_srec.specs.Clashes.{line_fault_of}
 
--- a kind that a line may have: no missing end record, and no want of memory
+-- a kind of fault that a single line may have: neither a missing end record nor out of memory
 abbrev pub IsKindOfLine : SrecKind → Type 0
 IsKindOfLine NoEnd = ⊥
 IsKindOfLine OutOfMemory = ⊥
@@ -51,7 +51,7 @@ proper_line [] = tt
 proper_line (first ∷ []) = tt
 proper_line (first ∷ kind ∷ digits) = proper ((first == 83) && (nat_le 48 kind && nat_le kind 57)) _ _ (proper_digits (kind - 48) digits) tt
 
--- what a record is refused for
+-- a refusal of a record, if there is one, is a kind of fault that a line may have
 abbrev pub IsRefusal : Option SrecKind → Type 0
 IsRefusal None = Unit {0}
 IsRefusal (Some kind) = IsKindOfLine kind
@@ -100,7 +100,7 @@ not_past a b le = grind (arith, nat_tests)
 in_range : (at : ℕ) (bytes : List ℕ) → at + length bytes ≤ 4294967296 → cond (nat_lt 4294967296 (at + length bytes)) (Some (PastEnd at)) None ≡ None
 in_range at bytes fits = ap (λ (b : Bool). cond b (Some (PastEnd at)) None) (not_past 4294967296 (at + length bytes) fits)
 
--- whose bytes were added
+-- a data record that ends within the addresses, with its bytes added
 pub took_data : (reading : Reading) (before : List Cell) (seen next : Seen) (at : ℕ) (bytes : List ℕ) (image : List Run) → reading ≡ Ok (Some (Data at bytes)) →
     at + length bytes ≤ 4294967296
     → next ≡ record { records = seen.records + 1 } → (first_clash before (cells_from at bytes) ≡ None) × IsImageOf (cells_from at bytes ++ before) image →
@@ -117,7 +117,7 @@ took_data reading before seen next at bytes image is fits counted laid =
       end_cells = tt;
     })
 
--- or that clashed
+-- a data record that clashed with an earlier one
 clash_as_line : (fault : ClashFault) (before : List Cell) (seen : Seen) (at : ℕ) (bytes : List ℕ) → at + length bytes ≤ 4294967296
     → IsClashFault fault (first_clash before (cells_from at bytes)) → IsLineFault srec (Ok (Some (Data at bytes))) before seen (line_fault_of fault)
 clash_as_line (clash.Conflict a o n) before seen at bytes fits is =

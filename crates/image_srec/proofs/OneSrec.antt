@@ -16,7 +16,7 @@ srec_fault_is lines line srec_kind.NoEnd is other = inr (refl, is)
 srec_fault_is lines line srec_kind.OutOfMemory is other = absurd (other refl)
 srec_fault_is lines line kind is other = inl is
 
--- beside an image there is no fault but want of memory
+-- a text that has an image has no fault but out of memory
 pub srec_memory_alone : (lines : List (List ℕ)) (image : List Run) (line : ℕ) (kind : SrecKind) → IsImageOfText srec lines image
     → IsSrecFault lines line kind → kind ≡ srec_kind.OutOfMemory
 srec_memory_alone lines image line srec_kind.NotRecord one is = absurd (image_or_fault srec lines image line srec_kind.NotRecord one is)

@@ -9,15 +9,15 @@ use Rattle.image_srec.specs.declared.fault.SrecKind.TheVariants.{NotRecord, BadD
 use Rattle.image_srec.specs.declared.record.SrecRecord.{SrecRecord}
 use Rattle.image_srec.specs.declared.record.SrecRecord.TheVariants.{Header, Data, Count, End}
 
--- what a line may say: nothing, a record or a fault
+-- what a line may read as: nothing, a record or a fault
 abbrev pub Reading : Type 0
 Reading = Result (Option SrecRecord) SrecKind
 
--- "address": four bytes for the types 3 and 7, three for 2, 6 and 8, and else two
+-- "address": how many bytes it has. The types 3 and 7 have four, the types 2, 6 and 8 three, and all others two.
 abbrev pub address_len : ℕ → ℕ
 address_len value = if (value == 3) || (value == 7) then 4 else if (value == 2) || ((value == 6) || (value == 8)) then 3 else 2
 
--- the number of two to four bytes, the high one first
+-- the number that two to four bytes hold, the high byte first
 abbrev pub number_of : List ℕ → ℕ
 number_of (a ∷ b ∷ []) = a * 256 + b
 number_of (a ∷ b ∷ c ∷ []) = (a * 256 + b) * 256 + c
@@ -36,7 +36,7 @@ record_of value address bytes =
 abbrev pub checksum_of : List ℕ → ℕ
 checksum_of bytes = 255 - sum bytes % 256
 
--- "count": the bytes of address, data and checksum; the types above 4 carry no data
+-- "count": how many bytes of address, data and checksum there are; the types above 4 carry no data
 abbrev pub is_long_enough : ℕ → ℕ → Bool
 is_long_enough value count = if nat_lt value 4 then nat_le (address_len value + 1) count else count == address_len value + 1
 
@@ -49,7 +49,7 @@ checked value bytes =
     let data_at = 1 + address_len value in
     if said == due then Ok (Some (record_of value (number_of (slice_range bytes 1 data_at)) (slice_range bytes data_at last))) else Err (BadSum said due)
 
--- the digits behind a type
+-- the digits of a line after its type
 abbrev pub read_digits : ℕ → List ℕ → Reading
 read_digits value digits =
     if not (list_all is_hex_digit digits) then Err BadDigit
@@ -58,7 +58,7 @@ read_digits value digits =
     (is_long_enough value (slice_index (pairs digits) 0))) then Err BadLength
     else checked value (pairs digits)
 
--- a line: a capital S, a decimal digit for the type, and digits
+-- a line: a capital S, a decimal digit for the type, and the hexadecimal digits of the bytes
 abbrev pub read_line : List ℕ → Reading
 read_line [] = Ok None
 read_line (first ∷ []) = Err NotRecord

@@ -10,7 +10,7 @@ use Rattle.image_srec.specs.declared.record.SrecRecord.{SrecRecord}
 use Rattle.image_srec.specs.declared.record.SrecRecord.TheVariants.{Header, Data, Count, End}
 use Rattle.image_srec.specs.Record.{Reading, read_line}
 
--- how many data records there are up to a line, where `earlier` are before it; before the first line there is none
+-- how many data records there are up to a line that reads so, where `earlier` counts those before it
 abbrev pub count_behind : Reading → Seen → Seen
 count_behind (Ok None) earlier = earlier
 count_behind (Ok (Some Header)) earlier = earlier
@@ -25,7 +25,7 @@ record_cells seen (Data at bytes) = cells_from at bytes
 record_cells seen (Count said) = []
 record_cells seen End = []
 
--- a count record tells another number than that, or a data record goes past the last address
+-- why a record is refused: it counts another number of data records than `seen`, or its data goes past the last address
 abbrev pub refused : Seen → SrecRecord → Option SrecKind
 refused seen Header = None
 refused seen (Data at bytes) = if nat_lt 4294967296 (at + length bytes) then Some (PastEnd at) else None
@@ -38,7 +38,7 @@ is_end (Data at bytes) = false
 is_end (Count said) = false
 is_end End = true
 
--- the format
+-- Motorola S-records as a format of records
 abbrev pub srec : Format Seen SrecRecord SrecKind
 srec = record {
   read = read_line;
@@ -50,7 +50,7 @@ srec = record {
   conflict = λ clash. Conflict clash.at clash.old clash.new;
 }
 
--- a fault of a text: want of memory, which has line 0, or what is at fault with its lines
+-- a fault of a text with its line; out of memory has line 0
 abbrev pub IsSrecFault : List (List ℕ) → ℕ → SrecKind → Type 0
 IsSrecFault lines line NotRecord = IsFaultOfLine srec lines line NotRecord
 IsSrecFault lines line BadDigit = IsFaultOfLine srec lines line BadDigit

@@ -5,8 +5,8 @@ ghost use Rattle.record_lines.specs.Format.{IsImageOfText};
 ghost use Rattle.image_srec.specs.declared.fault.SrecKind.{SrecKind};
 ghost use Rattle.image_srec.specs.Srec.{srec, IsSrecFault};
 
-/// A text of S-records has one image at most, it has no fault where it has an image, and it has one fault at most. Want of memory
-/// is no fault of a text. So a text with an image is read as it, or there was no memory.
+/// A text of S-records has at most one image and at most one fault. A text with an image has no fault, but reading it can run
+/// out of memory.
 pub fn srec_has_one_reading()
     ensures image { (lines : List (List ℕ)) (a b : List Run) → IsImageOfText srec lines a → IsImageOfText srec lines b → a ≡ b }
     ensures apart { (lines : List (List ℕ)) (image : List Run) (line : ℕ) (kind : SrecKind) → IsImageOfText srec lines image → IsSrecFault lines line kind

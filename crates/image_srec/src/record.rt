@@ -6,7 +6,7 @@ use crate::fault::SrecKind;
 use octets::hex_pair;
 use record_lines::{Payload, all_digits, byte_sum, decode};
 
-/// How many data records stand before a line.
+/// How many data records there are before a line.
 #[derive(Clone, Copy)]
 pub struct Seen {
     /// The number of data records.
@@ -18,9 +18,9 @@ pub struct Seen {
 pub enum SrecRecord {
     /// A header.
     Header,
-    /// Bytes, the first one at this address.
+    /// Data bytes, with the address of the first one.
     Data { at: u32, bytes: Payload },
-    /// How many data records there are before it.
+    /// A count record: how many data records it says are before it.
     Count { said: u32 },
     /// The end of the text.
     End,
@@ -37,7 +37,7 @@ pub fn parse(line: &[u8]) -> Result<Option<SrecRecord>, SrecKind>
     }
 }
 
-/// What the digits behind a type say.
+/// What the digits after a type read as.
 fn parse_digits(value: u8, digits: &[u8]) -> Result<Option<SrecRecord>, SrecKind>
     requires { value < 10 }
     ensures { result ≡ read_digits value digits.now }
@@ -61,7 +61,7 @@ fn parse_digits(value: u8, digits: &[u8]) -> Result<Option<SrecRecord>, SrecKind
     check(value, bytes)
 }
 
-/// Whether so many bytes behind the count fit a type.
+/// Whether a record of this type can have `count` bytes after its count.
 fn fits_type(value: u8, count: u8) -> bool
     ensures { result ≡ is_long_enough value count }
 {
@@ -73,7 +73,7 @@ fn fits_type(value: u8, count: u8) -> bool
     }
 }
 
-/// How many bytes the address of a type has.
+/// How many bytes of address a record of this type has.
 fn address_bytes(value: u8) -> u8
     ensures len { result ≡ address_len value }
     ensures few { result ≤ 4 }
@@ -86,7 +86,7 @@ fn address_bytes(value: u8) -> u8
     }
 }
 
-/// A record from its bytes, if its checksum is right.
+/// The record that some bytes hold, if its checksum is right.
 fn check(value: u8, bytes: &[u8]) -> Result<Option<SrecRecord>, SrecKind>
     requires long { address_len value + 2 ≤ length bytes.now }
     requires most { length bytes.now ≤ 256 }
@@ -115,7 +115,7 @@ fn number(bytes: &[u8]) -> u32
     }
 }
 
-/// A record of a type.
+/// The record of this type with this address and these data bytes.
 fn record(value: u8, address: u32, bytes: &[u8]) -> SrecRecord
     requires { length bytes.now ≤ 255 }
     ensures { result ≡ record_of value address bytes.now }

@@ -83,7 +83,7 @@ store_failed {told} {tells} {a} {b} {o} text reads later rose = record {
 
 -- ---- window by window
 
--- so many bytes from a place on were put
+-- the first `at` bytes from a place on were put
 pub record CopiedSoFar (told : Bool) (start now : BenchState) (tells : Bool) (first last : SinkState) (from len at : ℕ) (window : List ℕ) : Type 0 where
   pub within : at ≤ len
   pub room : length window ≡ 4096

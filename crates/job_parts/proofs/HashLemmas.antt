@@ -12,7 +12,7 @@ use Rattle.sha2.specs.declared.Sha256.{Sha256}
 use Rattle.byte_map.specs.Image.{Run}
 use Rattle.job_parts.specs.Listing.{bytes_of}
 
--- so many bytes from a place on are hashed
+-- the first `at` bytes from a place on were hashed
 pub record HashedSoFar (told : Bool) (start now : BenchState) (from len at : ℕ) (window : List ℕ) (hasher : Sha256) : Type 0 where
   pub within : at ≤ len
   pub room : length window ≡ 4096

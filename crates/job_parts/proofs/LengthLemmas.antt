@@ -73,7 +73,7 @@ number_of format j file at n whole is same =
 
 -- ---- the texts
 
--- so many bytes at a place of a file are a text
+-- a text stands at a place of a file
 pub record StandsAt (file : List ℕ) (at : ℕ) (text : List ℕ) : Type 0 where
   pub within : at + length text ≤ length file
   pub is : take (length text) (drop at file) ≡ text
@@ -188,7 +188,7 @@ flm_there j place.Second lengths file are whole has = record {
 
 -- ---- the snapshot
 
--- so many bytes as there are cells, read from a file that is the same
+-- the snapshot, as many bytes as the board has cells, read from a file that is unchanged
 pub snapshot_there : (job : code.Job) (file mid : List ℕ) (stands : StandsFor job file) (len : ℕ) → mid ≡ file → len ≡ size_of job.board.regions
     → take len (drop job.snapshot_at mid) ≡ stands.text.snapshot
 snapshot_there job file mid stands len same long =

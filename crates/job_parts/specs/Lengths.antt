@@ -1,4 +1,4 @@
--- How long the texts of a job are, and where they stand in its file.
+-- How long the texts of a job are, and where they are in its file.
 use Rattle.std.specs.Prelude.{◌≡◌, ◌+◌, ℕ, length}
 use Rattle.job_text.specs.Body.{Job, flm_len}
 use Rattle.job_text.specs.Reading.{places_of}
@@ -13,7 +13,7 @@ pub record AreLengths (j : Job) (lengths : Lengths) : Type 0 where
   pub first : lengths.first ≡ flm_len j.flms 0
   pub second : lengths.second ≡ flm_len j.flms 1
 
--- where the texts begin: the board's is the first
+-- where the texts of a job begin in its file; the board's is the first
 abbrev pub front_of : Lengths → ℕ
 front_of lengths = (places_of lengths.format).front
 

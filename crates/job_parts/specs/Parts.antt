@@ -20,13 +20,13 @@ use Rattle.job_parts.specs.declared.part.Part.TheVariants as part
 use Rattle.job_parts.specs.Gives.{OnlyLooks, IsDoneOrFault, IsGiven}
 use Rattle.job_parts.specs.Listing.{listing_text}
 
--- the number of a region
+-- the index of a region: 0 or 1
 abbrev pub index_of : Place → ℕ
 index_of place.First = 0
 index_of place.Second = 1
 
--- What a part of a job is, whose texts say this board and these algorithms: texts byte for byte as they went in, and an image as a text that reads
--- back as it.
+-- A text is this part of a job with this board and these algorithms. Board, FLM files and snapshot are byte for byte as they
+-- were stored. The image is a text that reads back as it.
 abbrev pub IsTextOf : Part → Job → board.Shown → List flm.Shown → List ℕ → Type 0
 IsTextOf part.Listing j b algorithms text = text ≡ listing_text j b algorithms
 IsTextOf part.Board j b algorithms text = text ≡ j.board
@@ -34,12 +34,12 @@ IsTextOf (part.Flm p) j b algorithms text = slice_get j.flms (index_of p) ≡ So
 IsTextOf (part.Image form) j b algorithms text = text ≡ text_in form j.image
 IsTextOf part.Snapshot j b algorithms text = text ≡ j.snapshot
 
--- the job has no such part
+-- a job has no such part
 abbrev pub IsLacking : Part → Job → Type 0
 IsLacking (part.Flm p) j = slice_get j.flms (index_of p) ≡ None
 IsLacking _ j = ⊥
 
--- the file stands for a job of which this holds
+-- a file stands for a job, and `Holds` is true of it
 pub record OfJob (file : List ℕ) (Holds : Job → board.Shown → List flm.Shown → Type 0) : Type 0 where
   pub job : Job
   pub board : board.Shown
@@ -48,30 +48,30 @@ pub record OfJob (file : List ℕ) (Holds : Job → board.Shown → List flm.Sho
   pub whole : IsWhole (body_of job) file
   pub holds : Holds job board algorithms
 
--- the file stands for a job that has this part
+-- a file stands for a job, and this text is a part of it
 abbrev pub IsPartOf : Part → List ℕ → List ℕ → Type 0
 IsPartOf p file text = OfJob file (λ j b algorithms. IsTextOf p j b algorithms text)
 
--- or that has no such part
+-- a file stands for a job that has no such part
 abbrev pub IsWithout : Part → List ℕ → Type 0
 IsWithout p file = OfJob file (λ j b algorithms. IsLacking p j)
 
 -- ---- a job that is open
 
--- a text that is this part of the job for which a file stands, and of which this holds
+-- a text is this part of the job for which a file stands, and `Holds` is true of it
 pub record IsOfPart (p : Part) (job : code.Job) (file : List ℕ) (stands : StandsFor job file) (Holds : List ℕ → Type 0) : Type 0 where
   pub text : List ℕ
   pub is_text : IsTextOf p stands.text (board.shown job.board) (algorithms_shown job.algorithms) text
   pub holds : Holds text
 
--- a part of this job was put, or a beginning of it
+-- this part of an open job was put, or a beginning of it
 pub record PutsPart (p : Part) (job : code.Job) (bench : BenchCall) (out : SinkCall) (answer : Answer) : Type 0 where
   pub kind : IsDoneOrFault answer
   pub given : IsTrue bench.tells → (stands : StandsFor job bench.before.file) → IsTrue out.tells
       → IsOfPart p job bench.before.file stands (λ text. IsGiven out text answer)
   pub looks : OnlyLooks bench out answer
 
--- it has no such part
+-- an open job has no such part, and nothing was put
 pub record LacksPart (p : Part) (job : code.Job) (bench : BenchCall) (out : SinkCall) (answer : Answer) : Type 0 where
   pub answer_is : answer ≡ refused usage
   pub lacks : IsTrue bench.tells → (stands : StandsFor job bench.before.file) → IsLacking p stands.text
@@ -83,21 +83,21 @@ GivesPart p job bench out answer = PutsPart p job bench out answer ⊎ LacksPart
 
 -- ---- the call
 
--- a text that is this part of the job for which the file stands, and of which this holds
+-- a text is this part of the job for which the file stands, and `Holds` is true of it
 pub record WithPart (p : Part) (file : List ℕ) (Holds : List ℕ → Type 0) : Type 0 where
   pub text : List ℕ
   pub is_part : IsPartOf p file text
   pub holds : Holds text
 
--- the part went to `out` where done, or else a beginning of it
+-- the part went to `out`, or a beginning of it where the answer isn't `done`
 abbrev pub HasGiven : Part → BenchCall → SinkCall → Answer → Type 0
 HasGiven p bench out answer = IsTrue bench.tells → IsTrue out.tells → WithPart p bench.before.file (λ text. IsGiven out text answer)
 
--- this holds of the file, and nothing went to `out`
+-- `Holds` is true of the file, and nothing went to `out`
 abbrev pub Refuses : BenchCall → SinkCall → Type 0 → Type 0
 Refuses bench out Holds = (IsTrue bench.tells → Holds) × TookNothing out
 
--- When each answer comes, and what goes to `out` with it. A job for another number of cells than the bench has is refused.
+-- When each answer comes, and what goes to `out` with it. A job for a number of cells that the bench doesn't have is refused.
 abbrev pub Comes : Part → BenchCall → SinkCall → Answer → Type 0
 Comes p bench out done = HasGiven p bench out done
 Comes p bench out (refused output_fault) = HasGiven p bench out (refused output_fault)
@@ -110,7 +110,7 @@ Comes p bench out (refused (damaged kept found)) = Refuses bench out (IsDamaged 
 Comes p bench out (refused (cells_differ wanted found)) = Refuses bench out (IsOtherSize bench.before.file bench.before.cell_count wanted found)
 Comes p bench out (refused _) = ⊥
 
--- what the call ends with
+-- how a call that reads out a part of a job ends
 pub record GiveEnds (p : Part) (bench : BenchCall) (out : SinkCall) (answer : Answer) : Type 0 where
   pub comes : Comes p bench out answer
   pub looks : OnlyLooks bench out answer

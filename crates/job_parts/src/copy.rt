@@ -42,7 +42,7 @@ fn copy_window<'a, B: Bench, O: Sink>(
     }
 }
 
-/// Puts so many bytes of the file, from a place on, some thousand at a time. It takes no memory.
+/// Puts `len` bytes of the file from a place on, at most 4,096 at a time. It takes no memory.
 pub fn copy<'a, B: Bench, O: Sink>(
     bench: &mut B,
     from: u64,

@@ -1,4 +1,4 @@
-//! The call that gives a part of a job.
+//! The call that reads out a part of a job.
 ghost use Rattle.std.specs.Prelude.{◌≡◌, ◌<◌, ◌↔◌, length, IsTrue};
 ghost use Rattle.command_files.specs.Call.{bench_call, sink_call};
 ghost use Rattle.command_files.specs.Shown.{answer_of};
@@ -21,8 +21,8 @@ use outside_io::{OutputFault, Sink};
 use report_text::Refusal;
 use std::alloc::Global;
 
-/// Puts a part of the job for which the job file stands. The file is only read, and the cells aren't looked at. It takes memory for what the
-/// texts say and for the image, and none for the snapshot.
+/// Puts a part of the job for which the job file stands. The file is only read, and the cells aren't read. It takes memory for the contents
+/// of the texts and for the image, and none for the snapshot.
 pub fn give<'a, B: Bench, O: Sink>(
     alloc: Global,
     part: Part,
@@ -58,7 +58,7 @@ fn put_part<'a, B: Bench, O: Sink>(
     }
 }
 
-/// Puts what a job is, line by line.
+/// Puts the listing of a job, line by line.
 fn put_lines<'a, B: Bench, O: Sink>(
     bench: &mut B,
     job: &Job,
@@ -94,7 +94,7 @@ fn put_board_text<'a, B: Bench, O: Sink>(
     }
 }
 
-/// Puts the FLM file of a region, which a job of one region may not have.
+/// Puts the FLM file of a region. A job of one region has only the first.
 fn put_flm<'a, B: Bench, O: Sink>(
     place: Place,
     bench: &mut B,

@@ -41,7 +41,7 @@ fn hash_window<B: Bench>(
     Ok(())
 }
 
-/// The SHA-256 of so many bytes of the file, from a place on, read some thousand at a time.
+/// The SHA-256 of `len` bytes of the file from a place on, read at most 4,096 at a time.
 pub fn hash_file<B: Bench>(bench: &mut B, from: u64, len: u64) -> Result<[u8; 32], StoreFault>
     requires told { IsTrue B.tells → from + len ≤ length (B.state bench.old).file }
     requires bound { from + len < 2 ^ 64 }

@@ -1,4 +1,4 @@
-//! How long the texts of a job are, by the fields of its head.
+//! How long the texts of a job are, by the fields of the job file's head.
 ghost use Rattle.std.specs.Prelude.{◌≡◌, ◌≤◌, ◌<◌, ◌+◌, ◌^◌, length, take, drop, IsTrue, IfOk};
 ghost use Rattle.faults.specs.Counts.{HasCause};
 ghost use Rattle.bench_model.specs.Calls.{OnlyReads};
@@ -14,7 +14,7 @@ use bench_model::{Bench, StoreFault};
 use job_text::{Format, format_of, places_in};
 use octets::le32;
 
-/// The format of a job, and how many bytes its texts have: that of the board, and the FLM files, of which the second may be missing.
+/// The format of a job, and how many bytes its board and its FLM files have. The second FLM file may be missing.
 #[derive(Clone, Copy)]
 pub struct Lengths {
     pub format: Format,
@@ -24,7 +24,7 @@ pub struct Lengths {
 }
 
 impl Lengths {
-    /// Where the texts begin: that of the board is the first.
+    /// Where the texts of the job begin; the board's is the first.
     pub fn front(&self) -> u64
         ensures value { result ≡ front_of self.now }
         ensures small { result ≤ 64 }
@@ -44,7 +44,7 @@ impl Lengths {
         }
     }
 
-    /// How many bytes it has.
+    /// How many bytes the FLM file of a region has.
     pub fn flm_len(&self, place: Place) -> u64
         ensures value { result ≡ flm_size self.now place }
         ensures small { result < 2 ^ 32 }
@@ -56,7 +56,7 @@ impl Lengths {
     }
 }
 
-/// The format by the mark.
+/// The format that the file's mark gives.
 fn read_mark<B: Bench>(bench: &mut B) -> Result<Format, StoreFault>
     requires { IsTrue B.tells → 8 ≤ length (B.state bench.old).file }
     ensures ok { IsTrue B.tells → IfOk result (λ f. f ≡ format_in (take 7 (drop 1 (B.state bench.old).file))) }

@@ -1,4 +1,4 @@
-//! The parts of an open job, given back: what is in a job file, its texts as they went in, and its maps as they read back.
+//! The parts of an open job, read out of its job file: the texts as they were stored, and the image and snapshot as files that read back.
 #![tactic(auto)]
 
 mod board;

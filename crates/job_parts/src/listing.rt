@@ -1,4 +1,4 @@
-//! What a job is, line by line.
+//! The listing of a job, line by line.
 ghost use Rattle.std.specs.Prelude.{◌≡◌, ◌≤◌, length, IsTrue, IfOk};
 ghost use Rattle.std.specs.List.{flat_map};
 ghost use Rattle.faults.specs.Counts.{HasCause};
@@ -48,7 +48,7 @@ pub fn read_survey<B: Bench>(bench: &mut B, job: &Job) -> Result<Survey, StoreFa
     })
 }
 
-/// Puts what a job is. A fault may leave a beginning of it.
+/// Puts the listing of a job. A fault may leave a beginning of it.
 pub fn put_listing<O: Sink>(out: &mut O, job: &Job, survey: &Survey) -> Result<(), OutputFault>
     ensures { Puts O.tells (O.state out.old) (O.state out.new) (listing_of survey.now.format job.now.image survey.now.image survey.now.snapshot
         (board_shown job.now.board) (algorithms_shown job.now.algorithms)) result }
@@ -62,7 +62,7 @@ pub fn put_listing<O: Sink>(out: &mut O, job: &Job, survey: &Survey) -> Result<(
     put_hash(out, b"snapshot ", &survey.snapshot)
 }
 
-/// Puts the lines of a format. The hash of a job that stands is right, if it has one.
+/// Puts the lines of a format. If the format has a hash, that of an open job is right.
 fn put_format<O: Sink>(out: &mut O, format: Format) -> Result<(), OutputFault>
     ensures { Puts O.tells (O.state out.old) (O.state out.new) (format_text format) result }
 {

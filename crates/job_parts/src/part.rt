@@ -1,8 +1,8 @@
-//! What can be had of a job.
+//! The parts of a job that can be read out.
 
 use command_words::TextForm;
 
-/// A region of a board with two at most.
+/// A region of a board that has at most two.
 #[derive(Clone, Copy)]
 pub enum Place {
     First,
@@ -12,18 +12,18 @@ pub enum Place {
 /// A part of a job.
 #[derive(Clone, Copy)]
 pub enum Part {
-    /// What the job is, line by line.
+    /// The listing of the job, line by line.
     Listing,
 
-    /// The text of its board.
+    /// The text of the job's board.
     Board,
 
     /// The FLM file of a region.
     Flm(Place),
 
-    /// Its image as a text.
+    /// The job's image as a text.
     Image(TextForm),
 
-    /// The cells as they were when it began.
+    /// The cells as they were when the job began.
     Snapshot,
 }

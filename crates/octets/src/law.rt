@@ -3,7 +3,7 @@ ghost use Rattle.std.specs.Prelude.{◌≡◌, ◌≤◌, ◌<◌, ◌+◌, ◌^
 ghost use Rattle.std.specs.Int.{w16, w32, to_le_bytes};
 ghost use Rattle.octets.specs.Field.{field16, field32};
 
-/// The bytes of a field are those of its number, and where the bytes of a number stand, the field is that number.
+/// The bytes of a field are those of its number. Where the bytes of a number are, the field is that number.
 pub fn fields_are_their_bytes()
     ensures bytes_of_16 { (bytes : List ℕ) (at : ℕ) → All (λ byte. byte < 256) bytes → at + 2 ≤ length bytes
         → to_le_bytes w16 (field16 bytes at) ≡ take 2 (drop at bytes) }

@@ -31,7 +31,7 @@ module _ (before first second mid : List ℕ) (a b c : List ℕ) where
     appended = two.appended ∙ ap (λ (l : List ℕ). l ++ two.part) one.appended ∙ append_assoc a one.part two.part;
   }
 
--- a text that waits behind the others
+-- a text that waits after those that wait already
 pub gathers_here : (tells : Bool) (a : SinkState) (w x text : List ℕ) (u : Unit {0}) → x ≡ w ++ text → Gathers tells a a w x text (Ok u)
 gathers_here tells a w x text u is = record {
   ok = λ told. record { part = []; text_is = sym is; appended = sym (append-nil a.taken) };
@@ -75,7 +75,7 @@ gathers_waiting {tells} {a} {b} {w} {x} (Err e) none puts = record {
   cause = puts.cause;
 }
 
--- a text that was gathered where none waited, and of which none waits
+-- a text that was gathered where none waited, with nothing left waiting
 pub gathers_alone : {tells : Bool} {a b : SinkState} {w x text : List ℕ} (r : Result (Unit {0}) OutputFault)
     → w ≡ [] → OnOk r (x ≡ []) → Gathers tells a b w x text r → Puts tells a b text r
 gathers_alone {tells} {a} {b} {w} {x} {text} (Ok u) none no_more gathers = record {
@@ -91,7 +91,7 @@ gathers_alone {tells} {a} {b} {w} {x} {text} (Err e) none no_more gathers = reco
   cause = gathers.cause;
 }
 
--- the same text, in other words
+-- gathering an equal text
 pub gathers_as : {tells : Bool} {a b : SinkState} {w x text other : List ℕ} {r : Result (Unit {0}) OutputFault}
     → text ≡ other → Gathers tells a b w x text r → Gathers tells a b w x other r
 gathers_as {tells} {a} {b} {w} {x} {text} {other} {r} same gathers = subst (λ (t : List ℕ). Gathers tells a b w x t r) same gathers

@@ -19,7 +19,7 @@ puts_nothing tells a u = record {
   cause = record { later = omega arith; on_fault = λ failed. absurd (cc failed); on_ok = λ fine. refl };
 }
 
--- the same text, in other words
+-- putting an equal text
 pub puts_as : {tells : Bool} {a b : SinkState} {text other : List ℕ} {r : Result (Unit {0}) OutputFault}
     → text ≡ other → Puts tells a b text r → Puts tells a b other r
 puts_as {tells} {a} {b} {text} {other} {r} same puts = subst (λ (t : List ℕ). Puts tells a b t r) same puts

@@ -8,7 +8,7 @@ use crate::sink::{OutputFault, Sink};
 use arrayvec::ArrayVec;
 use std::marker::Model;
 
-/// Up to 4,096 bytes of a text that wait for the sink. A contract sees it as the list of its bytes.
+/// Up to 4,096 bytes of text that wait for the sink. A contract sees the list of these bytes.
 #[derive(Drop)]
 pub struct Gathered {
     text: ArrayVec<u8, 4096>,
@@ -23,7 +23,7 @@ impl Model for Gathered {
 }
 
 impl Gathered {
-    /// No text.
+    /// A buffer with no text.
     pub fn new() -> Gathered
         ensures { result ≡ [] }
     {
@@ -52,7 +52,7 @@ impl Gathered {
         Ok(())
     }
 
-    /// Gathers a piece. What waits is put where it leaves no room for the piece.
+    /// Gathers a piece. If it has no room, what waits is put first.
     pub fn add<O: Sink>(&mut self, out: &mut O, piece: &[u8]) -> Result<(), OutputFault>
         ensures { Gathers O.tells (O.state out.old) (O.state out.new) self.old self.new piece.now result }
     {
@@ -63,7 +63,7 @@ impl Gathered {
         self.add_first(out, piece)
     }
 
-    /// Gathers a piece where none waits. One that is too long for that is put.
+    /// Gathers a piece where none waits. One that is too long to wait is put at once.
     fn add_first<O: Sink>(&mut self, out: &mut O, piece: &[u8]) -> Result<(), OutputFault>
         requires { self.old ≡ [] }
         ensures { Gathers O.tells (O.state out.old) (O.state out.new) self.old self.new piece.now result }

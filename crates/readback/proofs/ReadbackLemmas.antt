@@ -41,7 +41,7 @@ SoFar-here tells s from bytes = record {
   faults = refl;
 }
 
--- A window: the next bytes, of which there are enough.
+-- A window: the next `size` bytes, where there are that many left.
 module _ (tells : Bool) (start mid : BenchState) (from : ℕ) (bytes : List ℕ) (done size k : ℕ)
     (so_far : SoFar tells start mid from bytes done) (fits : done + size ≤ length bytes) (whole : k ≡ size) where
   part : List ℕ

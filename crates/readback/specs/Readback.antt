@@ -6,19 +6,19 @@ use Rattle.bench_model.specs.Calls.{FileStays}
 use Rattle.readback.specs.Difference.{IsFirstDifference}
 use Rattle.readback.specs.declared.compare.Difference.{Difference}
 
--- The difference is the first one between the cells from a place on and these bytes.
+-- This is the first difference between the cells from a place on and these bytes.
 pub record IsDifference (tells : Bool) (cells : List ℕ) (from : ℕ) (bytes : List ℕ) (d : Difference) : Type 0 where
   pub offset : ℕ
   pub place : d.at ≡ from + offset
   pub first : IsFirstDifference tells cells from bytes offset d.want d.got
 
--- None where the cells from a place on are these bytes, else the first difference.
+-- The first difference between the cells from a place on and these bytes, or none where they are equal.
 abbrev pub Finds : Bool → List ℕ → ℕ → List ℕ → Option Difference → Type 0
 Finds tells cells from bytes None = IsTrue tells → take (length bytes) (drop from cells) ≡ bytes
 Finds tells cells from bytes (Some d) = IsDifference tells cells from bytes d
 
--- The cells are only read: they and the open operation stay, a stop leaves no cells that one before might not have
--- left, and the file's half stays.
+-- The cells are only read. They and the open operation are unchanged, and so is the job file's half. A stop leaves no cells that an
+-- earlier stop might not have left.
 pub record OnlyReadsCells (tells : Bool) (old new : BenchState) : Type 0 where
   pub cells : IsTrue tells → new.cells ≡ old.cells
   pub operation : IsTrue tells → new.operation ≡ old.operation

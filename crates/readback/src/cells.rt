@@ -4,8 +4,8 @@ ghost use Rattle.bench_model.specs.Does.{ReadsCells};
 
 use bench_model::{Bench, DeviceFault};
 
-/// Fills the buffer with the cells from place `at` on. The cells must be there, and no operation open. On a fault the buffer
-/// holds any bytes, and the cells stay.
+/// Fills the buffer with the cells from place `at` on. The cells must exist, and no operation may be open. On a fault the buffer
+/// may hold anything, and the cells are unchanged.
 pub fn read_cells<B: Bench>(bench: &mut B, at: u32, out: &mut [u8]) -> Result<(), DeviceFault>
     requires range { at + length out.old ≤ (B.state bench.old).cell_count }
     requires idle { IsTrue B.tells → (B.state bench.old).operation ≡ None }

@@ -14,8 +14,8 @@ pub struct Difference {
     pub got: u8,
 }
 
-/// Compares the cells from place `at` on with `want`, as many at a time as the window holds. None where they are equal, else
-/// the least place that differs. The cells must be there, the window not empty, and no operation open.
+/// Compares the cells from place `at` on with `want`, as many at a time as the window holds. Answers the first place that
+/// differs, or none. The cells must exist, the window must not be empty, and no operation may be open.
 pub fn first_difference<B: Bench>(
     bench: &mut B,
     at: u32,
@@ -48,7 +48,7 @@ pub fn first_difference<B: Bench>(
     Ok(None)
 }
 
-/// The same for at most a window.
+/// The first difference between the device and at most a window of bytes.
 fn difference_in<B: Bench>(
     bench: &mut B,
     at: u32,

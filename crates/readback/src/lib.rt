@@ -1,4 +1,4 @@
-//! The cells of a device, read back: into a buffer, or against the bytes that they are to hold. No call takes memory.
+//! The cells of a device, read back into a buffer or compared with the bytes that they should hold. No call takes memory.
 #![tactic(auto)]
 
 mod cells;

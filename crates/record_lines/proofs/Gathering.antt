@@ -27,7 +27,7 @@ line_has cells runs image own is all =
     (λ cell same. part_of runs image cell.at cell.byte all (is.same cell.at ∙ ap (λ (cs : List Cell). held cs cell.at) (append-nil cells) ∙ same))
     cells own
 
--- and no other address
+-- the runs of a line have no address but those of its cells
 line_only : (cells : List Cell) (runs : List Run) (a : ℕ) → IsImageOf (cells ++ []) runs → held cells a ≡ None → All (λ run. holds run a ≡ false) runs
 line_only cells runs a is none = none_holds runs a (is.same a ∙ ap (λ (cs : List Cell). held cs a) (append-nil cells) ∙ none)
 

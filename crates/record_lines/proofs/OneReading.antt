@@ -68,13 +68,13 @@ module _ {C R F : Type 0} (f : Format C R F) (lines : List (List ℕ)) where
   pub one_no_end : (line other : ℕ) → HasNoEnd f lines line → HasNoEnd f lines other → line ≡ other
   one_no_end line other one two = one.line_is ∙ sym two.line_is
 
-  -- beside an image there is no fault but want of memory
+  -- a text that has an image has no fault but out of memory
   pub image_or_text_fault : (image : List Run) (fault : TextFault F) → IsImageOfText f lines image → IsTextFault f lines fault → IsMemoryFault fault
   image_or_text_fault image (Line line fault) one two = image_or_fault image line fault one two
   image_or_text_fault image (NoEnd line) one two = image_or_no_end image line one two
   image_or_text_fault image OutOfMemory one two = tt
 
-  -- and but for that there is one fault
+  -- a text has at most one fault besides out of memory
   pub one_text_fault : (a b : TextFault F) → IsTextFault f lines a → IsTextFault f lines b → (IsMemoryFault a → ⊥) → (IsMemoryFault b → ⊥) → a ≡ b
   one_text_fault (Line line a) (Line other b) one two no_a no_b =
       let same = one_line_fault line other a b one two in

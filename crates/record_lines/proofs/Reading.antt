@@ -1,4 +1,4 @@
--- A text read line by line: what holds behind its first n lines, and how it ends.
+-- A text read line by line: what holds after its first n lines, and how it ends.
 use Rattle.std.proofs.Common.{◌≡◌, ◌≤◌, ◌<◌, ◌+◌, ℕ, suc, min, List, [], ◌∷◌, ◌++◌, length, get_or, drop, Some, None, refl, sym, ap, subst, ◌∙◌, true, false}
 use Rattle.std.proofs.Common.{arith, below_more}
 use Rattle.std.proofs.lemmas.List.{length-drop, get_or-drop, drop-drop, drop_all}
@@ -9,12 +9,12 @@ use Rattle.record_lines.specs.Format.{Format, line_at, context_before, line_cell
 use Rattle.record_lines.specs.Format.{IsImageOfText, line_number, IsFaultOfLine, HasNoEnd}
 use Rattle.record_lines.specs.Gathered.{cells_at}
 
--- behind the first n lines, which end at `from`, c is known
+-- the first n lines end at `from`, and c is known after them
 pub record IsBehind {C R F : Type 0} (f : Format C R F) (text : List ℕ) (from : ℕ) (c : C) (n : ℕ) : Type 0 where
   pub rest : lines_of (drop from text) ≡ drop n (lines_of text)
   pub context_is : c ≡ context_before f (lines_of text) n
 
--- they are right besides, and the image has their bytes
+-- the first n lines were read: they are right, and the image has their bytes
 pub record HasRead {C R F : Type 0} (f : Format C R F) (text : List ℕ) (from line : ℕ) (c : C) (image : List Run) (n : ℕ) : Type 0 where
   pub behind : IsBehind f text from c n
   pub before : AreRight f (lines_of text) n
@@ -63,7 +63,7 @@ module _ {C R F : Type 0} (f : Format C R F) (text : List ℕ) (from : ℕ) (c :
       ap (λ (k : C). line_cells f k (f.read (line_at (lines_of text) n))) (sym h.context_is)
       ∙ ap (λ (l : List ℕ). line_cells f c (f.read l)) next_is
 
-  -- and what is known behind it
+  -- what is known after the next line
   pub behind_next : (c' : C) → c' ≡ f.behind (f.read here) c → IsBehind f text next c' (suc n)
   behind_next c' is =
       record {

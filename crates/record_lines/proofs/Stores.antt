@@ -10,7 +10,7 @@ use Rattle.byte_map.specs.Image.{Run}
 use Rattle.record_lines.specs.declared.gathered.Piece.{Piece}
 use Rattle.record_lines.specs.Gathered.{run_of, IsInside}
 
--- bytes behind those of a piece don't touch it
+-- bytes appended to the store don't change a piece in it
 run_of-append : (bytes more : List ℕ) (piece : Piece) → IsInside bytes piece → run_of (bytes ++ more) piece ≡ run_of bytes piece
 run_of-append bytes more piece inside =
     ap (λ (bs : List ℕ). record { at = piece.at; bytes = bs })
@@ -40,7 +40,7 @@ runs-push bytes more pieces piece inside start len =
     ∙ ap (λ (runs : List Run). runs ++ run_of (bytes ++ more) piece ∷ []) (runs-append bytes more pieces inside)
     ∙ ap (λ (run : Run). map (run_of bytes) pieces ++ run ∷ []) (run_of-last bytes more piece start len)
 
--- the runs of a map one by one behind others
+-- the runs of a map, appended one by one to others
 pub pushed_more : (before runs now next : List Run) (index : ℕ) (run : Run) → index < length runs → slice_get runs index ≡ Some run →
     now ≡ before ++ take index runs → next ≡ now ++ run ∷ [] → next ≡ before ++ take (index + 1) runs
 pushed_more before runs now next index run lt is now_is next_is =

@@ -59,7 +59,7 @@ not_digit byte a lt p le =
     ∙ ap (λ (n : ℕ). nat_lt n 16) (sym p)
     ∙ (let is : nat_lt a 16 ≡ false = grind (arith, nat_tests) in is)
 
--- two bytes of which one is no digit stand for none
+-- two bytes stand for no number where one of them is no digit
 pub first_none : (high low a : ℕ) → high < 256 → a ≡ unwrap_or (hex_value high) 16 → 16 ≤ a → 0 ≡ unwrap_or (pair_value high low) 0
 first_none high low a lt p le = none_first (hex_value high) (hex_value low) (not_digit high a lt p le)
 

@@ -12,27 +12,27 @@ abbrev pub held : List Cell → ℕ → Option ℕ
 held [] a = None
 held (cell ∷ cells) a = if a == cell.at then Some cell.byte else held cells a
 
--- cells of which no two have unequal bytes at one address
+-- no two of these cells have unequal bytes at one address
 abbrev pub AreConsistent : List Cell → Type 0
 AreConsistent cells = All (λ cell. held cells cell.at ≡ Some cell.byte) cells
 
--- bytes at rising addresses from one on
+-- bytes as cells at rising addresses, the first one at `at`
 abbrev pub cells_from : ℕ → List ℕ → List Cell
 cells_from at [] = []
 cells_from at (byte ∷ bytes) = record { at = at; byte = byte } ∷ cells_from (at + 1) bytes
 
--- two unequal bytes at one address
+-- a clash: two unequal bytes at one address
 pub record Clash : Type 0 where
   pub at : ℕ
   pub old : ℕ
   pub new : ℕ
 
--- a cell against the byte that its address has already, and what the later cells give
+-- the clash of a cell with the byte that its address already has, or else the clash of a later cell
 abbrev pub clash_with : Option ℕ → Cell → Option Clash → Option Clash
 clash_with None cell later = later
 clash_with (Some old) cell later = if old == cell.byte then later else Some (record { at = cell.at; old = old; new = cell.byte })
 
--- the first of some cells, in their order, whose address has another byte before them
+-- the first of some cells, in their order, whose address already has another byte in `before`
 abbrev pub first_clash : List Cell → List Cell → Option Clash
 first_clash before [] = None
 first_clash before (cell ∷ cells) = clash_with (held before cell.at) cell (first_clash before cells)

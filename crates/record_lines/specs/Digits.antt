@@ -6,7 +6,7 @@ use Rattle.octets.specs.Digit.{hex_value, pair_value}
 abbrev pub is_hex_digit : ℕ → Bool
 is_hex_digit byte = is_some (hex_value byte)
 
--- the bytes that pairs of digits stand for; a last digit without another is left out
+-- the bytes that pairs of digits stand for; a last digit without a partner is left out
 abbrev pub pairs : List ℕ → List ℕ
 pairs [] = []
 pairs (last ∷ []) = []

@@ -1,4 +1,4 @@
-//! A text of records, laid in the order of their addresses. A tree of runs is walked the quicker the nearer each record is
+//! A text of records, added in the order of their addresses. Adding a record to a tree of runs is the faster the nearer it is
 //! to the last one.
 ghost use Rattle.std.specs.Prelude.{IfSome};
 ghost use Rattle.octets.specs.Lines.{lines_of};
@@ -11,7 +11,7 @@ use byte_map::ByteMap;
 use octets::next_line;
 use std::alloc::Global;
 
-/// Reads a text of records: the image, or nothing where a line is at fault, none ends the text, or no memory is left.
+/// Reads a text of records: the image, or nothing if a line is at fault, none ends the text, or memory runs out.
 pub fn read_by_address<S: RecordFormat>(alloc: Global, text: &[u8]) -> Option<ByteMap>
     ensures { IfSome result (IsImageOfText S.format (lines_of text.now)) }
 {
@@ -20,7 +20,7 @@ pub fn read_by_address<S: RecordFormat>(alloc: Global, text: &[u8]) -> Option<By
     lay_all(alloc, &gathered)
 }
 
-/// The runs of each line before the first end record, or nothing where a line is at fault by itself.
+/// The runs of each line before the first end record, or nothing if a line is at fault by itself.
 fn gather<S: RecordFormat>(alloc: Global, text: &[u8]) -> Option<Gathered>
     ensures { IfSome result (AreRunsOfText S.format (lines_of text.now)) }
 {
@@ -40,7 +40,7 @@ fn gather<S: RecordFormat>(alloc: Global, text: &[u8]) -> Option<Gathered>
     None
 }
 
-/// The union of runs, or nothing where two of them have unequal bytes at one address.
+/// The union of runs, or nothing if two of them have unequal bytes at one address.
 fn lay_all(alloc: Global, runs: &Gathered) -> Option<ByteMap>
     ensures { IfSome result (IsUnionOf runs.now) }
 {

@@ -1,4 +1,4 @@
-//! A text of records, each laid where it stands.
+//! A text of records, added in the order of its lines.
 ghost use Rattle.std.specs.Prelude.{◌≡◌, ◌-◌, ◌^◌, IfSome, IfOk, IfErr, IsSome};
 ghost use Rattle.octets.specs.Lines.{lines_of};
 ghost use Rattle.record_lines.specs.Format.{IsImageOfText, IsTextFault};
@@ -9,7 +9,7 @@ use byte_map::ByteMap;
 use octets::next_line;
 use std::alloc::Global;
 
-/// Reads a text of records line by line, and answers what `read_records` does; or nothing, where more than `most` runs came up.
+/// Reads a text of records line by line and answers what `read_records` does, or nothing once there are more than `most` runs.
 pub fn read_by_line<S: RecordFormat>(
     alloc: Global,
     text: &[u8],

@@ -4,7 +4,7 @@ ghost use Rattle.std.specs.List.{list_all};
 ghost use Rattle.octets.specs.Digit.{hex_value, pair_value};
 ghost use Rattle.record_lines.specs.Digits.{is_hex_digit, pairs};
 
-/// The value of each byte as a hexadecimal digit, and 16 where it is none. A processor foresees no digit, so a test of each
+/// The value of each byte as a hexadecimal digit, or 16 for no digit. A processor can't predict digits, so a branch for each
 /// one costs more than a look into a table.
 const VALUES: [u8; 256] = [
     16, 16, 16, 16, 16, 16, 16, 16, 16, 16, 16, 16, 16, 16, 16, 16, 16, 16, 16, 16, 16, 16, 16, 16,
@@ -20,7 +20,7 @@ const VALUES: [u8; 256] = [
     16, 16, 16, 16, 16, 16, 16, 16, 16, 16, 16, 16, 16, 16,
 ];
 
-/// The value of a hexadecimal digit in either case, and 16 for any other byte.
+/// The value of a hexadecimal digit in either case, or 16 for any other byte.
 #[inline(always)]
 fn value_of(byte: u8) -> u8
     ensures { result ≡ unwrap_or (hex_value byte) 16 }
@@ -38,7 +38,7 @@ fn is_digit(byte: u8) -> bool
     (number < 10) | (letter < 6)
 }
 
-/// The byte that two hexadecimal digits stand for, and 0 where one of them is no digit.
+/// The byte that two hexadecimal digits stand for, or 0 where one of them is no digit.
 #[inline(always)]
 fn byte_of(high: u8, low: u8) -> u8
     ensures { result ≡ unwrap_or (pair_value high low) 0 }

@@ -12,18 +12,18 @@ pub enum ClashFault {
 /// Why a line was not taken.
 #[derive(Clone, Copy)]
 pub enum LineFault<F> {
-    /// What is at fault with it.
+    /// The line is refused for this.
     Refused(F),
     /// No memory was left.
     OutOfMemory,
 }
 
-/// Why a text was not read. Lines count from 1, and stand still at 4,294,967,295.
+/// Why a text was not read. Lines count from 1; the count stops at 4,294,967,295.
 #[derive(Clone, Copy)]
 pub enum TextFault<F> {
-    /// What is at fault with a line.
+    /// A line is refused.
     Line { line: u32, fault: F },
-    /// The text has no end record; its last line.
+    /// The text has no end record. This is its last line.
     NoEnd { line: u32 },
     /// No memory was left.
     OutOfMemory,

@@ -11,7 +11,7 @@ use std::marker::Model;
 struct Piece {
     /// The address of the first byte.
     at: u32,
-    /// Its place in the store, and how many bytes there are.
+    /// Where its bytes begin in the store, and how many there are.
     start: usize,
     len: usize,
 }
@@ -37,7 +37,7 @@ impl Model for Gathered {
 }
 
 impl Gathered {
-    /// No runs.
+    /// An empty list of runs.
     pub fn new(alloc: Global) -> Gathered
         ensures { result ≡ [] }
     {
@@ -54,7 +54,7 @@ impl Gathered {
         self.pieces.len()
     }
 
-    /// A run: the address of its first byte, and its bytes.
+    /// The address of a run's first byte, and the run's bytes.
     pub fn run(&self, index: usize) -> (u32, &[u8])
         requires { index < length self.now }
         ensures { slice_get self.now index ≡ Some (record { at = result.0; bytes = result.1.now }) }
@@ -63,7 +63,7 @@ impl Gathered {
         (piece.at, &self.bytes[piece.start..piece.start + piece.len])
     }
 
-    /// Adds a run behind the others.
+    /// Appends a run.
     pub fn push(&mut self, at: u32, bytes: &[u8]) -> Result<(), AllocError>
         ensures { OnOk result (self.new ≡ self.old ++ record { at = at; bytes = bytes.now } ∷ []) }
     {
@@ -74,7 +74,7 @@ impl Gathered {
         Ok(())
     }
 
-    /// Adds the runs of a map.
+    /// Appends the runs of a map.
     pub fn push_runs(&mut self, map: &ByteMap) -> Result<(), AllocError>
         ensures { OnOk result (self.new ≡ self.old ++ map.now) }
     {
@@ -85,7 +85,7 @@ impl Gathered {
         Ok(())
     }
 
-    /// Puts the runs in the order of their addresses. Where no memory is left for that, they stay as they are.
+    /// Sorts the runs by address. If memory runs out, they are unchanged.
     pub fn sort(&mut self) -> Result<(), AllocError>
         ensures { IsPermutation self.old self.new }
     {

@@ -6,8 +6,8 @@ ghost use Rattle.record_lines.specs.declared.fault.TextFault.{TextFault};
 
 use crate::reader::RecordFormat;
 
-/// A text of records has one image at most, it has no fault where it has an image, and it has one fault at most. Want of memory
-/// is no fault of a text.
+/// A text of records has at most one image and at most one fault, and a text with an image has no fault. Out of memory is no
+/// fault of a text.
 pub fn texts_have_one_reading<S: RecordFormat>()
     ensures image { (lines : List (List ℕ)) (a b : List Run) → IsImageOfText S.format lines a → IsImageOfText S.format lines b → a ≡ b }
     ensures apart { (lines : List (List ℕ)) (image : List Run) (fault : TextFault S.Fault) → IsImageOfText S.format lines image

@@ -10,19 +10,19 @@ use crate::fault::{LineFault, TextFault};
 use byte_map::ByteMap;
 use std::alloc::Global;
 
-/// An image of so many runs is laid line by line. One of more is laid in the order of its addresses.
+/// An image of at most this many runs is built line by line. One of more is built in the order of its addresses.
 const FEW_RUNS: usize = 64;
 
-/// A format of records. A value is what is known of the lines that were read.
+/// A format of records. A value holds what is known of the lines that were read.
 pub trait RecordFormat: Drop {
     /// A record.
     type Record;
-    /// What may be at fault with a line.
+    /// Why a line is refused.
     type Fault: Drop;
 
     ghost format: { Format Self Self.Record Self.Fault };
 
-    /// How many lines more may be taken.
+    /// How many more lines may be taken.
     ghost room: { Self → ℕ };
 
     /// What is known before the first line.
@@ -30,7 +30,7 @@ pub trait RecordFormat: Drop {
         ensures known { result ≡ format.start }
         ensures room { 2 ^ 64 - 1 ≤ room result };
 
-    /// Takes one line, and says whether it ends the text.
+    /// Takes one line, and answers whether it ends the text.
     fn take_line(&mut self, map: &mut ByteMap, line: &[u8]) -> Result<bool, LineFault<Self::Fault>>
         requires { 0 < room self.old }
         ensures ok { IfOk result (λ ends. (before : List Cell) → IsImageOf before map.old
@@ -40,8 +40,8 @@ pub trait RecordFormat: Drop {
         ensures room { room self.old ≤ room self.new + 1 };
 }
 
-/// Reads a text of records: the image is the union of the records before the first end record. What follows that record is left
-/// unread. A fault is the first one of the first line at fault.
+/// Reads a text of records. The image is the union of the records before the first end record; what follows that record is left
+/// unread. If the text is refused, the fault is the first one of the first wrong line.
 pub fn read_records<S: RecordFormat>(
     alloc: Global,
     text: &[u8],

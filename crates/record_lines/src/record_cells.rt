@@ -6,8 +6,8 @@ ghost use Rattle.record_lines.specs.Clashes.{IsClashFault};
 use crate::fault::ClashFault;
 use byte_map::{ByteMap, LayFault};
 
-/// Adds `bytes` from `at` on to an image: they clash nowhere with the cells that it has, and it has
-/// them besides. Else it answers the first clash, or that no memory was left.
+/// Adds `bytes` from `at` on to an image, unless they clash with a byte that it has.
+/// Otherwise it answers the first clash, or out of memory.
 pub fn lay_cells(map: &mut ByteMap, at: u32, bytes: &[u8]) -> Result<(), ClashFault>
     requires { at + length bytes.now ≤ 2 ^ 32 }
     ensures ok { OnOk result ((before : List Cell) → IsImageOf before map.old → (first_clash before (cells_from at bytes.now) ≡ None)

@@ -170,7 +170,7 @@ of_difference what at wanted found plain =
       ),
     )
 
--- the refusals of a call for several benches, of which none names a file
+-- the refusals of a call for several benches: none of them names a file
 abbrev pub is_of_gang : Refusal → Bool
 is_of_gang out_of_memory = true
 is_of_gang usage = true
@@ -206,7 +206,7 @@ plain_reason r is = absurd (false≢true is)
 
 -- ---- lines
 
--- what is said behind the number
+-- what a target's line says after its number
 abbrev pub said_of : Option Refusal → List ℕ
 said_of None = codes "done"
 said_of (Some r) = reason_of r

@@ -65,7 +65,7 @@ is_in name base ranges set k place len member at =
     rw member (ap (λ (p : ℕ). action_text name (base + p) len) start
     ∙ ap (λ (l : ℕ). action_text name (base + (range_at ranges k).start) l) length_is)
 
--- its address is a word
+-- the address of a range is a word
 pub address_fits : (base size : ℕ) (ranges : List Range) (k place len : ℕ) → IsPartition size ranges → k < length ranges → base + size ≤ 4294967296
     → IsAt (range_at ranges k) place len → base + place < 4294967296
 address_fits base size ranges k place len are less fits at =

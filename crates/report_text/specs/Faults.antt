@@ -1,4 +1,4 @@
--- What the refusals of files are called: the name, then the fields, each after a space, and a nested refusal after the outer name.
+-- The texts of the faults of files: the name, then the fields, each after a space. A nested fault follows the outer name.
 use Rattle.std.specs.Prelude.{ℕ, List, [], ◌∷◌, ◌++◌, codes, decimal, Option, Some, None}
 use Rattle.std.specs.List.{concat}
 use Rattle.board_file.specs.Table.{spelt, part_spelt}
@@ -37,7 +37,7 @@ field_text field.SectionSize = codes "SectionSize"
 field_text field.NameIndex = codes "NameIndex"
 field_text field.Link = codes "Link"
 
--- of an ELF file
+-- the text of a fault of an ELF file
 unfoldable pub elf_text : ElfFault → List ℕ
 elf_text elf.OutOfMemory = codes "OutOfMemory"
 elf_text elf.NotElf = codes "NotElf"
@@ -46,7 +46,7 @@ elf_text (elf.Truncated part) = concat (codes "Truncated " ∷ field_text part �
 elf_text (elf.BadIndex part value) = concat (codes "BadIndex " ∷ field_text part ∷ codes " " ∷ decimal value ∷ [])
 elf_text (elf.BadName offset) = concat (codes "BadName " ∷ hex_text 8 offset ∷ [])
 
--- of an FLM file
+-- the text of a fault of an FLM file
 unfoldable pub flm_text : FlmFault → List ℕ
 flm_text flm.OutOfMemory = codes "OutOfMemory"
 flm_text (flm.Elf fault) = codes "Elf " ++ elf_text fault
@@ -62,7 +62,7 @@ flm_text (flm.SectorOrder item) = concat (codes "SectorOrder " ∷ decimal item 
 flm_text (flm.SectorSize item) = concat (codes "SectorSize " ∷ decimal item ∷ [])
 flm_text (flm.BadDevice size) = concat (codes "BadDevice " ∷ decimal size ∷ [])
 
--- of a board's text, with keys and parts as that text writes them
+-- the text of a fault of a board's text, with keys and parts as that text writes them
 unfoldable pub board_text : BoardFault → List ℕ
 board_text board.OutOfMemory = codes "OutOfMemory"
 board_text board.NotToml = codes "NotToml"
@@ -72,19 +72,19 @@ board_text (board.Overlap a b) = concat (codes "Overlap " ∷ part_spelt a ∷ c
 board_text (board.TooBig key) = concat (codes "TooBig " ∷ spelt key ∷ [])
 board_text board.ManyRegions = codes "ManyRegions"
 
--- two unequal bytes of an address
+-- the text of two unequal bytes at an address
 unfoldable pub conflict_text : ℕ → ℕ → ℕ → List ℕ
 conflict_text at old new = concat (codes "Conflict " ∷ hex_text 8 at ∷ codes " " ∷ hex_text 2 old ∷ codes " " ∷ hex_text 2 new ∷ [])
 
--- the checksum of a record, and the one that the other bytes ask for
+-- the text of a wrong checksum: the record's own, and the one that its other bytes ask for
 unfoldable pub checksum_text : ℕ → ℕ → List ℕ
 checksum_text said due = concat (codes "BadSum " ∷ hex_text 2 said ∷ codes " " ∷ hex_text 2 due ∷ [])
 
--- how many data records a count record says there are, and how many there are
+-- the text of a wrong count record: how many data records it says there are, and how many there are
 unfoldable pub counts_text : ℕ → ℕ → List ℕ
 counts_text said seen = concat (codes "CountDiffers " ∷ decimal said ∷ codes " " ∷ decimal seen ∷ [])
 
--- of a line of Intel HEX
+-- the text of a fault of Intel HEX, without its line
 unfoldable pub hex_kind_text : HexKind → List ℕ
 hex_kind_text hex.NotRecord = codes "NotRecord"
 hex_kind_text hex.BadDigit = codes "BadDigit"
@@ -95,7 +95,7 @@ hex_kind_text (hex.Conflict at old new) = conflict_text at old new
 hex_kind_text hex.NoEnd = codes "NoEnd"
 hex_kind_text hex.OutOfMemory = codes "OutOfMemory"
 
--- of a line of S-records
+-- the text of a fault of S-records, without its line
 unfoldable pub srec_kind_text : SrecKind → List ℕ
 srec_kind_text srec.NotRecord = codes "NotRecord"
 srec_kind_text srec.BadDigit = codes "BadDigit"
@@ -108,7 +108,7 @@ srec_kind_text (srec.Conflict at old new) = conflict_text at old new
 srec_kind_text srec.NoEnd = codes "NoEnd"
 srec_kind_text srec.OutOfMemory = codes "OutOfMemory"
 
--- of an image; the line of a file isn't named here
+-- the text of a fault of an image, without the line of the file
 unfoldable pub image_text : ImageFault → List ℕ
 image_text image.NoForm = codes "NoForm"
 image_text (image.Hex fault) = codes "Hex " ++ hex_kind_text fault.kind
@@ -120,7 +120,7 @@ image_text (image.OutsideDevice at) = concat (codes "OutsideDevice " ∷ hex_tex
 image_text image.EmptyImage = codes "EmptyImage"
 image_text image.OutOfMemory = codes "OutOfMemory"
 
--- of a UF2 file
+-- the text of a fault of a UF2 file
 unfoldable pub uf2_text : Uf2Fault → List ℕ
 uf2_text (uf2.BadLength len) = concat (codes "BadLength " ∷ decimal len ∷ [])
 uf2_text (uf2.BadMagic block) = concat (codes "BadMagic " ∷ decimal block ∷ [])
@@ -129,19 +129,19 @@ uf2_text (uf2.Conflict at old new) = conflict_text at old new
 uf2_text (uf2.PastEnd at) = concat (codes "PastEnd " ∷ hex_text 8 at ∷ [])
 uf2_text uf2.OutOfMemory = codes "OutOfMemory"
 
--- of a file of any form; but for UF2 the form of the file isn't named first
+-- the text of a fault of a file of any form; it names the form first only for UF2
 unfoldable pub any_text : AnyFault → List ℕ
 any_text (any.Image fault) = image_text fault
 any_text (any.Uf2 fault) = codes "Uf2 " ++ uf2_text fault
 any_text any.OutOfMemory = codes "OutOfMemory"
 
--- the line that is at fault, in a file that is read by lines
+-- the number of the line at fault, in a file that is read by lines
 abbrev pub faulty_line : AnyFault → Option ℕ
 faulty_line (any.Image (image.Hex fault)) = Some fault.line
 faulty_line (any.Image (image.Srec fault)) = Some fault.line
 faulty_line other = None
 
--- the file of an image, and the line where there is one
+-- the name of an image's file, and the number of the line if there is one
 unfoldable pub place_text : List ℕ → Option ℕ → List ℕ
 place_text name None = concat (codes "image " ∷ name ∷ codes ": " ∷ [])
 place_text name (Some line) = concat (codes "image " ∷ name ∷ codes " line " ∷ decimal line ∷ codes ": " ∷ [])

@@ -19,14 +19,14 @@ ended pieces = pieces ++ codes "\n" ∷ []
 abbrev pub text_of_lines : List (List (List ℕ)) → List ℕ
 text_of_lines lines = concat (flat_map ended lines)
 
--- A byte of a name as it is shown: what is no printable ASCII character is a dot.
+-- A byte of a name as it is printed: a dot stands for each byte that isn't a printable ASCII character.
 abbrev pub printable : ℕ → ℕ
 printable byte = if nat_le 0x20 byte && nat_le byte 0x7E then byte else 0x2E
 
 unfoldable pub name_text : List ℕ → List ℕ
 name_text name = codes "name " ++ map printable name ++ codes "\n"
 
--- the version of the interface, the type of the device, and where it lies: its base and size
+-- the lines for the version of the interface, the type of the device, and its base and size
 unfoldable pub kind_text : Device → List ℕ
 kind_text device = text_of_lines (
     (codes "version " ∷ hex_text 4 device.vers ∷ [])
@@ -34,7 +34,7 @@ kind_text device = text_of_lines (
     ∷ (codes "device " ∷ hex_text 8 device.base ∷ codes " " ∷ decimal device.size ∷ [])
     ∷ [])
 
--- the bytes of a page, the value of erased memory, the reserved field, and the times to program a page and to erase a sector
+-- the lines for the page size, the erased value, the reserved field, and the times to program a page and erase a sector
 unfoldable pub values_text : Device → List ℕ
 values_text device = text_of_lines (
     (codes "page " ∷ decimal device.page ∷ [])
@@ -46,24 +46,24 @@ values_text device = text_of_lines (
 unfoldable pub device_text : Device → List ℕ
 device_text device = name_text device.name ++ kind_text device ++ values_text device
 
--- how many sectors there are
+-- the line for the number of sectors
 unfoldable pub count_text : ℕ → List ℕ
 count_text count = text_of_lines ((codes "sectors " ∷ decimal count ∷ []) ∷ [])
 
--- the offset of a sector item, and the size of its sectors
+-- the line for a sector item: its offset, and the size of its sectors
 unfoldable pub item_text : SectorItem → List ℕ
 item_text item = text_of_lines ((codes "item " ∷ hex_text 8 item.offset ∷ codes " " ∷ decimal item.size ∷ []) ∷ [])
 
--- the lengths of code, data and zeroed data
+-- the line for the lengths of code, data and zeroed data
 unfoldable pub parts_text : ℕ → ℕ → ℕ → List ℕ
 parts_text code init_data zeroed =
     text_of_lines ((codes "code " ∷ decimal code ∷ codes " data " ∷ decimal init_data ∷ codes " zero " ∷ decimal zeroed ∷ []) ∷ [])
 
--- the place of a function
+-- the line for the place of a function
 unfoldable pub entry_text : Name → ℕ → List ℕ
 entry_text name place = text_of_lines ((codes "entry " ∷ text_of name ∷ codes " " ∷ hex_text 8 place ∷ []) ∷ [])
 
--- a function that may be absent has no line then
+-- the line for a function that may be absent: it has none then
 abbrev pub optional_entry_text : Name → Option ℕ → List ℕ
 optional_entry_text name None = []
 optional_entry_text name (Some place) = entry_text name place
@@ -77,7 +77,7 @@ entries_text entries =
     ++ optional_entry_text EraseChip entries.erase_chip
     ++ optional_entry_text Verify entries.verify
 
--- the whole text
+-- the whole text of an inspection
 unfoldable pub inspection_text : Shown → List ℕ
 inspection_text algorithm =
     device_text algorithm.device

@@ -20,7 +20,7 @@ device_line device = text_of_lines ((codes "device " ∷ hex_text 8 device.base 
 unfoldable pub image_line : List Run → List ℕ
 image_line image = text_of_lines ((codes "image " ∷ decimal (bytes_in image) ∷ codes " bytes in " ∷ decimal (length image) ∷ codes " runs" ∷ []) ∷ [])
 
--- where the file stands for a job: a line for the device of each region in turn, and its image
+-- the text where the file stands for a job: a line for the device of each region in turn, and one for the image
 unfoldable pub job_text : List Device → List Run → List ℕ
 job_text devices image = codes "job open\n" ++ flat_map device_line devices ++ image_line image
 
@@ -28,7 +28,7 @@ job_text devices image = codes "job open\n" ++ flat_map device_line devices ++ i
 abbrev pub devices_of : Job → List Device
 devices_of job = map (λ (algorithm : Algorithm). algorithm.device) job.algorithms
 
--- where the file stands for none
+-- the text where the file stands for no job
 abbrev pub no_job_text : List ℕ
 no_job_text = codes "job none\n"
 

@@ -10,7 +10,7 @@ use Rattle.report_text.specs.Refusal.{no_room}
 use Rattle.report_text.specs.Refusal.{board_refused, job_open, no_job, not_a_job, damaged, cells_differ, store_fault, device_fault, output_fault, call_failed}
 use Rattle.report_text.specs.Refusal.{mismatch, differs}
 
--- a place or an address, with the byte that is wanted there and the one that was found
+-- the text of a difference: a place or an address, the byte wanted there, and the one found
 unfoldable pub difference_text : List ℕ → ℕ → ℕ → ℕ → List ℕ
 difference_text what at wanted found = concat (what ∷ codes " at " ∷ hex_text 8 at ∷ codes " wanted " ∷ hex_text 2 wanted
     ∷ codes " found " ∷ hex_text 2 found ∷ [])
@@ -19,11 +19,11 @@ difference_text what at wanted found = concat (what ∷ codes " at " ∷ hex_tex
 abbrev pub hash_text : List ℕ → List ℕ
 hash_text hash = flat_map (hex_text 2) hash
 
--- A byte of a file's name as it is shown: an ASCII control character is a dot, so a line stays one line.
+-- A byte of a file's name as it is printed: a dot stands for each ASCII control character, so the line stays one line.
 abbrev pub visible : ℕ → ℕ
 visible byte = if is_ascii_control byte then 0x2E else byte
 
--- what it says
+-- what the line of a refusal says
 unfoldable pub reason_of : Refusal → List ℕ
 reason_of out_of_memory = codes "out of memory"
 reason_of usage = codes "usage: flm_tool JOB CELLS COMMAND [WORDS]"
@@ -47,6 +47,6 @@ reason_of (call_failed number call end) = failed_text number call end
 reason_of (mismatch at wanted found) = difference_text (codes "mismatch") at wanted found
 reason_of (differs place wanted found) = difference_text (codes "differs") place wanted found
 
--- the whole line
+-- the whole line of a refusal
 unfoldable pub line_of : Refusal → List ℕ
 line_of refusal = codes "flmprog: " ++ reason_of refusal ++ codes "\n"

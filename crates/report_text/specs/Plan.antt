@@ -6,7 +6,7 @@ use Rattle.flm_descriptor.specs.Shape.{Range, range_at}
 use Rattle.page_geometry.specs.Geometry.{Geometry}
 use Rattle.erase_planner.specs.Plans.{Chosen}
 
--- whether a set has no number
+-- whether a set is empty
 abbrev pub is_none : List Bool → Bool
 is_none set = not (list_any (λ one. one) set)
 
@@ -14,7 +14,7 @@ is_none set = not (list_any (λ one. one) set)
 abbrev pub asks_nothing : Chosen → Bool
 asks_nothing plan = not plan.chip && (is_none plan.sectors && is_none plan.pages)
 
--- the first line: whether the chip is erased, sectors are, or nothing is to be done
+-- the first line of a plan: whether the chip is erased, sectors are, or nothing is to be done
 unfoldable pub kind_text : Chosen → List ℕ
 kind_text plan = if asks_nothing plan then codes "plan none\n" else if plan.chip then codes "plan chip\n" else codes "plan sectors\n"
 
@@ -32,11 +32,11 @@ unfoldable pub member_text : List ℕ → ℕ → List Range → List Bool → �
 member_text name base ranges set k =
     if get_or set k false then action_text name (base + (range_at ranges k).start) ((range_at ranges k).stop - (range_at ranges k).start) else []
 
--- the ranges of a set, rising
+-- the lines of the ranges of a set, in rising order
 unfoldable pub set_text : List ℕ → ℕ → List Range → List Bool → List ℕ
 set_text name base ranges set = texts_below (length ranges) (member_text name base ranges set)
 
--- the chip, or the sectors
+-- the lines of what is erased: the chip, or the sectors
 unfoldable pub erase_text : Geometry → ℕ → Chosen → List ℕ
 erase_text l base plan = if plan.chip then codes "erase chip\n" else set_text (codes "erase") base l.sectors plan.sectors
 

@@ -14,17 +14,17 @@ pub data Refusal : Type 0 where
   input_fault : (name : List ℕ) → Refusal
   -- a raw image has more bytes than there are cells
   image_too_long : (bytes cells : ℕ) → Refusal
-  -- a file of an image is refused
+  -- a file of an image was refused
   image_refused : (name : List ℕ) (fault : AnyFault) → Refusal
   -- the image has no byte, or one outside the device
   image_misplaced : (fault : ImageFault) → Refusal
-  -- an input file is no FLM file
+  -- an FLM file was refused
   flm_refused : (fault : FlmFault) → Refusal
   -- an FLM file is for a device with another base or size than the region's
   other_device : (base size : ℕ) → Refusal
   -- the algorithm needs more bytes than the RAM has
   no_room : (need have : ℕ) → Refusal
-  -- an input file describes no board
+  -- the text of a board was refused
   board_refused : (fault : BoardFault) → Refusal
   -- the job file stands for a job already
   job_open : Refusal
@@ -34,14 +34,14 @@ pub data Refusal : Type 0 where
   not_a_job : (at : ℕ) → Refusal
   -- the job file keeps another hash than was found
   damaged : (kept found : List ℕ) → Refusal
-  -- there are other than the regions' number of cells
+  -- the bench has another number of cells than the regions
   cells_differ : (wanted found : ℕ) → Refusal
   store_fault : Refusal
   device_fault : Refusal
   output_fault : Refusal
-  -- a call of the algorithm ended otherwise than done
+  -- a call of the algorithm didn't end as done
   call_failed : (number : ℕ) (call : Call) (end : CallEnd) → Refusal
-  -- a cell isn't as it is wanted at this address, once all calls were done
+  -- once all calls were done, the cell at this address isn't as wanted
   mismatch : (at wanted found : ℕ) → Refusal
   -- a cell isn't the image's byte at this place
   differs : (place wanted found : ℕ) → Refusal

@@ -1,4 +1,4 @@
--- The refusal that a value of the program is.
+-- The refusal that a value of the program stands for.
 use Rattle.report_text.specs.Refusal as refusal
 use Rattle.report_text.specs.declared.refusal.Refusal.{Refusal}
 use Rattle.report_text.specs.declared.refusal.Refusal.TheVariants.{OutOfMemory, Usage, InputFault, ImageTooLong, ImageRefused, ImageMisplaced, FlmRefused}

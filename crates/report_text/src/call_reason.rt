@@ -1,4 +1,4 @@
-//! What is said of a call of an algorithm that ended otherwise than done.
+//! How a call of an algorithm that didn't end as done is reported.
 ghost use Rattle.std.specs.Prelude.{◌≡◌};
 ghost use Rattle.report_text.specs.Calls.{function_of, answer_text, place_text, access_text, fault_text, run_text, end_text, failed_text};
 ghost use Rattle.outside_io.specs.Puts.{Puts};
@@ -30,7 +30,7 @@ pub fn put_failed_call<E: Sink>(
     put_call_end(err, end)
 }
 
-/// The function that is called.
+/// The function that a call calls.
 fn function_of(call: Call) -> Name
     ensures { result ≡ function_of call }
 {
@@ -71,7 +71,7 @@ fn put_run_end<E: Sink>(err: &mut E, end: RunEnd) -> Result<(), OutputFault>
     }
 }
 
-/// Puts why an instruction could not be done, and where it stands.
+/// Puts why the core could not do an instruction, and the instruction's address.
 #[tactic(auto, unfolding(crate::specs::Calls::fault_text))]
 fn put_run_fault<E: Sink>(err: &mut E, kind: FaultKind, pc: u32) -> Result<(), OutputFault>
     ensures { Puts E.tells (E.state err.old) (E.state err.new) (fault_text kind pc) result }

@@ -5,7 +5,7 @@ ghost use Rattle.outside_io.specs.Puts.{Puts};
 use crate::pieces::put_pieces;
 use outside_io::{OutputFault, Sink};
 
-/// How a call ends that does what was asked.
+/// How a call ends that did what was asked.
 #[derive(Clone, Copy)]
 pub enum End {
     /// A job was closed.

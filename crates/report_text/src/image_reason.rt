@@ -16,7 +16,7 @@ use itoa::Buffer;
 use octets::hex_digits;
 use outside_io::{OutputFault, Sink};
 
-/// Puts the name of an image file, the line that is at fault where there is one, and the refusal.
+/// Puts the name of an image file, the number of the line at fault if there is one, and the refusal.
 pub fn put_image_file<E: Sink>(err: &mut E, name: &[u8], fault: AnyFault) -> Result<(), OutputFault>
     ensures { Puts E.tells (E.state err.old) (E.state err.new) (file_text name.now fault ++ any_text fault) result }
 {
@@ -24,7 +24,7 @@ pub fn put_image_file<E: Sink>(err: &mut E, name: &[u8], fault: AnyFault) -> Res
     put_any_fault(err, fault)
 }
 
-/// The line that is at fault, in a file that is read by lines.
+/// The number of the line at fault, in a file that is read by lines.
 fn faulty_line(fault: AnyFault) -> Option<u32>
     ensures { result ≡ faulty_line fault }
 {
@@ -117,7 +117,7 @@ pub fn put_image_fault<E: Sink>(err: &mut E, fault: ImageFault) -> Result<(), Ou
     }
 }
 
-/// Puts what is at fault in a line of Intel HEX.
+/// Puts the fault of a line of Intel HEX.
 #[tactic(auto, unfolding(crate::specs::Faults::hex_kind_text))]
 fn put_hex_kind<E: Sink>(err: &mut E, kind: HexKind) -> Result<(), OutputFault>
     ensures { Puts E.tells (E.state err.old) (E.state err.new) (hex_kind_text kind) result }
@@ -134,7 +134,7 @@ fn put_hex_kind<E: Sink>(err: &mut E, kind: HexKind) -> Result<(), OutputFault>
     }
 }
 
-/// Puts what is at fault in a line of S-records.
+/// Puts the fault of a line of S-records.
 #[tactic(auto, unfolding(crate::specs::Faults::srec_kind_text))]
 fn put_srec_kind<E: Sink>(err: &mut E, kind: SrecKind) -> Result<(), OutputFault>
     ensures { Puts E.tells (E.state err.old) (E.state err.new) (srec_kind_text kind) result }

@@ -24,7 +24,7 @@ pub fn put_inspection<O: Sink>(out: &mut O, algorithm: &Algorithm) -> Result<(),
     put_entries(out, &algorithm.entries)
 }
 
-/// Puts what is said of the device.
+/// Puts the lines of the device.
 fn put_device<O: Sink>(out: &mut O, device: &Device) -> Result<(), OutputFault>
     ensures { Puts O.tells (O.state out.old) (O.state out.new) (device_text device.now) result }
 {
@@ -42,7 +42,7 @@ fn put_name<O: Sink>(out: &mut O, name: &[u8]) -> Result<(), OutputFault>
     put_pieces(out, &[b"\n"])
 }
 
-/// Puts bytes as they are shown.
+/// Puts bytes with a dot for each that isn't printable.
 fn put_printable<O: Sink>(out: &mut O, name: &[u8]) -> Result<(), OutputFault>
     ensures { Puts O.tells (O.state out.old) (O.state out.new) (flat_map (λ byte. printable byte ∷ []) name.now) result }
 {
@@ -52,7 +52,7 @@ fn put_printable<O: Sink>(out: &mut O, name: &[u8]) -> Result<(), OutputFault>
     Ok(())
 }
 
-/// A byte of a name as it is shown.
+/// A byte of a name as it is printed.
 fn printable(byte: u8) -> u8
     ensures { result ≡ printable byte }
 {
@@ -62,7 +62,7 @@ fn printable(byte: u8) -> u8
     }
 }
 
-/// Puts the version, the type, and where the device lies.
+/// Puts the version, the type, and the base and size of the device.
 #[tactic(auto, unfolding(crate::specs::Inspection::kind_text))]
 fn put_kind<O: Sink>(out: &mut O, device: &Device) -> Result<(), OutputFault>
     ensures { Puts O.tells (O.state out.old) (O.state out.new) (kind_text device.now) result }

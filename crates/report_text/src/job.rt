@@ -12,7 +12,7 @@ use job_text::Job;
 use octets::hex_digits;
 use outside_io::{OutputFault, Sink};
 
-/// Puts what the job in a file is, or that there is none. A fault may leave a beginning of it.
+/// Puts the job of a job file, or that there is none. A fault may leave a beginning of it.
 pub fn put_job<O: Sink>(out: &mut O, job: Option<&Job>) -> Result<(), OutputFault>
     ensures { Puts O.tells (O.state out.old) (O.state out.new) (status_text (option_map (λ j. j.now) job.entry)) result }
 {

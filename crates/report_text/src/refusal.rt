@@ -68,7 +68,7 @@ pub enum Refusal<'a> {
         size: u32,
     },
 
-    /// The algorithm needs so many bytes of RAM, and the board has so many.
+    /// The algorithm needs `need` bytes of RAM, more than the board has.
     NoRoom {
         need: u64,
         have: u64,

@@ -4,7 +4,7 @@ use Rattle.std.specs.List.{after_first, before_first, repeat}
 use Rattle.std.specs.Str.Parse.{digits_value, without_leading_plus}
 use Rattle.hex.specs.Hex.{decode_of}
 
--- what stands for a byte: a bar (124) is the feed (10) of a line
+-- the byte that a byte of a row stands for: a bar (124) is a line feed (10)
 abbrev pub ended : ℕ → ℕ
 ended byte = if byte == 124 then 10 else byte
 
@@ -16,12 +16,12 @@ lines_in text = map ended text ++ 10 ∷ []
 abbrev pub is_star : ℕ → Bool
 is_star byte = byte == 42
 
--- pairs of digits before the first star, and behind it how often their bytes stand there, in decimal digits
+-- pairs of digits, a star, and in decimal digits how many times the bytes of these pairs are repeated
 pub record StandOften (word bytes : List ℕ) : Type 0 where
   pub once : List ℕ
   pub pairs : decode_of (before_first is_star word) ≡ Ok once
   pub often : bytes ≡ repeat (digits_value 10 (without_leading_plus (after_first is_star word))) once
 
--- the bytes of a word: none of a dash (45), those of pairs of digits, and as often as it says
+-- the bytes of a word: none for a dash (45), those of its pairs of digits, or these repeated as often as it says
 abbrev pub IsCounted : List ℕ → List ℕ → Type 0
 IsCounted word bytes = ((word ≡ 45 ∷ []) × (bytes ≡ [])) ⊎ ((decode_of word ≡ Ok bytes) ⊎ StandOften word bytes)

@@ -7,11 +7,11 @@ ghost use Rattle.row_text.specs.Rows.{IsCounted};
 use anyhow::Result;
 use std::alloc::Global;
 
-/// The number of a word.
+/// The number that a word gives in hexadecimal digits.
 ///
 /// # Errors
 ///
-/// What is no number below 2^32 in hexadecimal digits.
+/// If the word isn't a number below 2^32 in hexadecimal digits.
 pub fn number(word: &str) -> Result<u32>
     ensures { ParsesUnsigned 32 16 word.now result }
 {
@@ -22,18 +22,18 @@ pub fn number(word: &str) -> Result<u32>
 ///
 /// # Errors
 ///
-/// What is no pairs of hexadecimal digits, and want of memory.
+/// If the text isn't pairs of hexadecimal digits, or out of memory.
 pub fn bytes_of(alloc: Global, digits: &str) -> Result<Vec<u8>>
     ensures { IfOk result (λ bytes. decode_of digits.now ≡ Ok bytes.items) }
 {
     Ok(hex::decode(alloc, digits)?)
 }
 
-/// The bytes of a word: pairs of digits, and perhaps a star and how often they stand there, in decimal digits. No bytes are `-`.
+/// The bytes of a word: pairs of digits, perhaps with a star and how often they are repeated, in decimal digits. No bytes are `-`.
 ///
 /// # Errors
 ///
-/// What is no such word, and want of memory.
+/// If the text isn't such a word, or out of memory.
 pub fn counted_bytes(alloc: Global, word: &str) -> Result<Vec<u8>>
     ensures { IfOk result (λ bytes. IsCounted word.now bytes.items) }
 {
@@ -51,7 +51,7 @@ pub fn counted_bytes(alloc: Global, word: &str) -> Result<Vec<u8>>
 ///
 /// # Errors
 ///
-/// Where one is no such word, and want of memory.
+/// If one of the words isn't of that form, or out of memory.
 pub fn all_bytes(alloc: Global, words: &[&str]) -> Result<Vec<u8>> {
     let mut all = Vec::new(alloc);
     for word in words {

@@ -1,4 +1,4 @@
-//! What the rows of test programs write: bytes in pairs of hexadecimal digits, numbers in hexadecimal digits, and lines that are joined by bars.
+//! What the rows of test programs contain: bytes and numbers in hexadecimal digits, and lines that are joined by bars.
 #![tactic(auto)]
 
 mod digits;

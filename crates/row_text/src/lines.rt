@@ -5,7 +5,7 @@ ghost use Rattle.row_text.specs.Rows.{ended, lines_in};
 use anyhow::Result;
 use std::alloc::Global;
 
-/// What stands for a byte: a bar ends a line.
+/// The byte that a byte of a row stands for: a bar ends a line.
 fn feed_or(byte: u8) -> u8
     ensures { result ≡ ended byte }
 {
@@ -16,7 +16,7 @@ fn feed_or(byte: u8) -> u8
 ///
 /// # Errors
 ///
-/// Want of memory.
+/// Out of memory.
 pub fn lines_of(alloc: Global, text: &str) -> Result<Vec<u8>>
     ensures { IfOk result (λ bytes. bytes.items ≡ lines_in text.now) }
 {

@@ -12,7 +12,7 @@ use Rattle.std.proofs.lemmas.List.{take-append-drop}
 use Rattle.outside_io.specs.Appends.{AppendsPart}
 use Rattle.stream_files.specs.Outside.{StreamState, SourceState, WritesOn, ReadsOn, IsExcused}
 
--- so many bytes were taken, and so many calls interrupted
+-- the first `done` bytes were taken, and at least `stops` calls were interrupted
 pub record IsTaken (tells : Bool) (old now : StreamState) (bytes : List ℕ) (done stops : ℕ) : Type 0 where
   pub within : done ≤ length bytes
   pub taken : IsTrue tells → now.taken ≡ old.taken ++ take done bytes
@@ -75,7 +75,7 @@ at_end {n} (byte ∷ rest) more none =
     let some : 0 < n = more (omega arith) in
     absurd (omega (arith, some, none))
 
--- so much was read, and so many calls interrupted
+-- these bytes were read so far, and at least `stops` calls were interrupted
 pub record IsRead (tells : Bool) (old now : SourceState) (before bytes : List ℕ) (stops : ℕ) : Type 0 where
   pub names : (other : List ℕ) → now.stands other ≡ old.stands other
   pub read : IsTrue tells → bytes ++ now.rest ≡ before ++ old.rest
@@ -126,7 +126,7 @@ module _ (tells : Bool) (old mid new : SourceState) (before bytes : List ℕ) (s
   pub at_least : IsTrue tells → length bytes + length mid.rest ≡ length before + length old.rest
   at_least told = omega (arith, ap length (so_far.read told), length-append bytes mid.rest, length-append before old.rest)
 
--- a read that failed, but not for want of memory
+-- a read that failed for a reason other than out of memory
 pub excused : (old mid new : SourceState) (too_long : Type 0) (fault : Error) → new ≡ mid → IsExcused old mid too_long fault
     → (error_kind fault ≡ OutOfMemory → ⊥) → Rose old.calls.errors new.calls.errors ⊎ too_long
 excused old mid new too_long fault same (inl memory) other = absurd (other memory)

@@ -1,4 +1,4 @@
-//! Files of a host as inputs, and its streams as sinks, which two small traits stand for.
+//! Files of a host as inputs, and its streams as sinks. Two small traits stand for them.
 #![tactic(auto)]
 
 mod memory_source;

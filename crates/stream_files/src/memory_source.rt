@@ -7,7 +7,7 @@ use octets::Word;
 use std::io;
 use std::io::ErrorKind;
 
-/// One file in memory, which is read a few bytes at a time. The first reads are interrupted. It tells what stands under each name.
+/// One file in memory, which is read a few bytes at a time. The first reads are interrupted. Contracts see what file each name has.
 #[derive(Drop)]
 pub struct MemorySource {
     name: Word,
@@ -24,7 +24,7 @@ pub struct MemorySource {
 }
 
 impl MemorySource {
-    /// A file of this name, read at most so many bytes at a time, and of which so many reads are interrupted first.
+    /// A file of this name, read at most `most` bytes at a time. The first `signals` reads are interrupted.
     pub fn new(name: Word, bytes: Vec<u8>, most: usize, signals: u32) -> MemorySource
         requires { 0 < most }
         ensures name { result.name ≡ name }

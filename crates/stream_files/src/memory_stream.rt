@@ -6,7 +6,7 @@ use faults::FaultCount;
 use std::io;
 use std::io::ErrorKind;
 
-/// A stream in memory that takes a few bytes at a time, or none. Its first calls are interrupted. It tells what it has taken.
+/// A stream in memory that takes a few bytes at a time, or none. The first calls are interrupted. Contracts see what it has taken.
 #[derive(Drop)]
 pub struct MemoryStream {
     held: Vec<u8>,
@@ -19,7 +19,7 @@ pub struct MemoryStream {
 }
 
 impl MemoryStream {
-    /// A stream that holds these bytes, takes at most so many at a time, and of which so many calls are interrupted first.
+    /// A stream that holds these bytes and takes at most `most` at a time. The first `signals` calls are interrupted.
     pub fn new(held: Vec<u8>, most: usize, signals: u32) -> MemoryStream
         ensures held { result.held ≡ held }
         ensures most { result.most ≡ most }
@@ -36,7 +36,7 @@ impl MemoryStream {
         }
     }
 
-    /// What it holds.
+    /// The bytes that the stream holds.
     pub fn bytes(&self) -> &[u8]
         ensures { result.now ≡ self.now.held.items }
     {

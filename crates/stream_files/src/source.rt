@@ -4,7 +4,7 @@ ghost use Rattle.stream_files.specs.Outside.{SourceState, CallEnds, CallMayStop,
 
 use std::io;
 
-/// Files by name, of which one is read at a time, from its beginning on.
+/// Files by name. One of them is read at a time, from its beginning.
 ///
 /// Each call may fail, and counts that. A read that a signal interrupted is no error: it can be made again.
 pub trait Source {
