@@ -1,4 +1,4 @@
-//! The calls of an algorithm that is laid out in a RAM that each call is lent.
+//! The calls of an algorithm in a RAM that is lent to each call.
 ghost use Rattle.std.specs.Prelude.{◌+◌};
 ghost use Rattle.algo_loader.specs.Laws.{IsLaidOut};
 
@@ -12,10 +12,10 @@ use flm_descriptor::Algorithm;
 use ram_arena::Arena;
 use target_core::{AnyRegisters, Frame, Machine, RunEnd, SliceEnd};
 
-/// `BKPT #0` twice, at the return point.
+/// `BKPT #0` twice, for the return point.
 const BREAKPOINTS: [u8; 4] = [0x00, 0xBE, 0x00, 0xBE];
 
-/// A target without its RAM, and the algorithm that is laid out in the RAM, which is a window of an arena.
+/// A target without its RAM, and the algorithm in the RAM, which is a window of an arena.
 #[derive(Drop)]
 pub struct CallsIn {
     machine: Machine,
@@ -78,14 +78,14 @@ impl CallsIn {
         &self.machine
     }
 
-    /// Where the algorithm lies in the RAM.
+    /// The layout of the algorithm in the RAM.
     pub fn layout(&self) -> &Layout
         ensures { result.now ≡ (setup_at self.now).layout }
     {
         &self.layout
     }
 
-    /// Puts the RAM and the controller to what they held between two calls, and asks no bench. No other window changes.
+    /// Sets the RAM and the controller to what they held between two calls, without calling a bench. No other window changes.
     #[tactic(auto, using(crate::proofs::CallLemmas::written_whole))]
     pub fn stand_at(
         &mut self,
@@ -111,7 +111,7 @@ impl CallsIn {
         self.machine.unit.state = *state;
     }
 
-    /// Puts two breakpoints to the return point, and code and data to their places.
+    /// Writes two breakpoints to the return point, and code and data to their places.
     fn put_algorithm(&mut self, arena: &mut Arena, window: usize)
         requires { Fits self.old arena.old window }
         ensures ram { window_of arena.new window ≡ with_algorithm (setup_at self.old) (window_of arena.old window) }
@@ -129,7 +129,7 @@ impl CallsIn {
             .write_ram(arena, window, data_at, self.algorithm.init_data.bytes());
     }
 
-    /// Zeroes the RAM, and puts two breakpoints to the return point, and code and data to their places. No other window changes.
+    /// Zeroes the RAM, and writes two breakpoints to the return point, and code and data to their places. No other window changes.
     #[tactic(auto, unfolding(crate::specs::Frames::loaded))]
     pub fn load(&mut self, arena: &mut Arena, window: usize)
         requires { Fits self.old arena.old window }
@@ -143,8 +143,8 @@ impl CallsIn {
         self.put_algorithm(arena, window);
     }
 
-    /// Resets the target: core, RAM and controller. An operation that is open on the bench is broken off. After a device fault all is as
-    /// it was. No other window changes.
+    /// Resets the target: core, RAM and controller. An operation that is open on the bench is broken off. A device fault leaves everything
+    /// as it was. No other window changes.
     pub fn reset<B: Bench>(
         &mut self,
         arena: &mut Arena,
@@ -168,7 +168,7 @@ impl CallsIn {
         self.machine.reset(arena, window, bench)
     }
 
-    /// Starts the target anew, as after a reset, and asks no bench. So calls that were made on another bench don't matter. No other window
+    /// Restarts the target as after a reset, without calling a bench. So earlier calls on another bench don't matter. No other window
     /// changes.
     #[tactic(auto, unfolding(crate::specs::Calls::after_reset))]
     pub fn restart(&mut self, arena: &mut Arena, window: usize)
@@ -230,7 +230,7 @@ impl CallsIn {
         }
     }
 
-    /// The steps that a call may make.
+    /// The most steps that a call may make.
     #[tactic(auto, unfolding(crate::specs::Frames::fuel_of))]
     fn fuel(&self, call: Call) -> u64
         ensures { result ≡ fuel_of (setup_at self.now) call }
@@ -246,7 +246,7 @@ impl CallsIn {
         capped(time_out(milliseconds), self.steps_per_ms, sectors)
     }
 
-    /// Writes the bytes of a call to the buffer, and gives its frame.
+    /// Writes the bytes of a call into the buffer, and returns the call's frame.
     #[tactic(auto, unfolding(crate::specs::Frames::first_point))]
     fn hand_over(&mut self, arena: &mut Arena, window: usize, call: Call, bytes: &[u8]) -> Frame
         requires window { Fits self.old arena.old window }
@@ -263,8 +263,8 @@ impl CallsIn {
         self.frame(call, bytes.len() as u32)
     }
 
-    /// Writes the bytes of a call to the buffer and sets the registers, and gives the steps that it may make. There are no bytes for a call
-    /// that has no buffer. No other window changes.
+    /// Writes the bytes of a call into the buffer, sets the registers, and returns the most steps that the call may make. A call without a
+    /// buffer has no bytes. No other window changes.
     pub fn prepare(&mut self, arena: &mut Arena, window: usize, call: &Call, bytes: &[u8]) -> u64
         requires window { Fits self.old arena.old window }
         requires may { MayAsk (setup_at self.old) call.now bytes.now }
@@ -387,7 +387,7 @@ impl CallsIn {
         self.call(arena, window, bench, Call::EraseChip, &[])
     }
 
-    /// Programs the page at an address. There are at most as many bytes as a page has. No other window changes.
+    /// Programs the page at an address with at most a page of bytes. No other window changes.
     pub fn program_page<B: Bench>(
         &mut self,
         arena: &mut Arena,

@@ -35,15 +35,15 @@ pub fn calls_have_one_end<B: Bench>()
         → is_device_call e ≡ false → is_device_call f ≡ false → (e ≡ f) × (w' ≡ other) }
 {}
 
-/// The slices of a prepared call, however the steps are cut, end as its run does, on the same path.
+/// The slices of a prepared call, however it is cut, end as the call's run does, on the same path.
 pub fn slices_end_as_the_call<B: Bench>()
     ensures { (s : Setup) (w : World) (r : Request) (cuts : List ℕ) (start end : B) (e : RunEnd) (last : Point)
         → Sliced B.state s.layout.return_at cuts (first_point s w r) start (fuel_of s r.call) e last end
         → CallGives s w r (B.state start) (call_end_of (success_of r.call (length r.bytes)) e) last.world (B.state end) }
 {}
 
-/// Two calls in turn are one piece of work: the first leaves the target from which the second is computed, and a stop of the power at any
-/// moment of both leaves what one at a point of either path leaves.
+/// Two calls in turn are one piece of work. The second starts from the target that the first leaves. A stop of the power at any moment of
+/// both leaves what a stop at a point of either path leaves.
 pub fn calls_in_turn_compose<B: Bench>()
     ensures { (s : Setup) (w between w' : World) (p q : Request) (start turn end : B) (e f : CallEnd) → is_device_call e ≡ false
         → CallGives s w p (B.state start) e between (B.state turn) → CallGives s between q (B.state turn) f w' (B.state end)
@@ -63,9 +63,9 @@ pub fn resets_break_off<B: Bench>()
     ensures behind { (path : Piece) (start now : B) → BreaksOffOn path (B.state start) (B.state now) → StandsOn path (B.state now) }
 {}
 
-/// A call that keeps its duty leaves each cell outside its sector or page as it was, wherever a stop of the power comes; one that is to
-/// change nothing leaves them all so. What a duty leaves of a contents is one contents, with the cells of every other region as they were.
-/// No call changes the board.
+/// A call that keeps its duty leaves each cell outside its sector or page as it was, whenever the power stops. A call that must change
+/// nothing leaves all cells so. A duty turns given cells into just one list of cells, with the cells of every other region as they were. No
+/// call changes the board.
 pub fn kept_calls_stay_in_their_place()
     ensures local { (s : Setup) (site : Site) (w : World) (d : Duty) → IsGeometry site.layout → site.start + site.layout.size
         ≤ length w.cells → Keeps s site w d

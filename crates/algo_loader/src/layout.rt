@@ -9,23 +9,23 @@ use board_file::Board;
 use flm_descriptor::Algorithm;
 use thiserror::Error;
 
-/// How far the code lies from the RAM's first byte, in bytes.
+/// The distance of the code from the RAM's first byte, in bytes.
 const CODE_FROM: u32 = 32;
 
 /// Addresses in the RAM of a target.
 #[derive(Clone, Copy, PartialEq, Eq)]
 pub struct Layout {
-    /// Where calls return to: the RAM's first byte.
+    /// The return point of calls: the RAM's first byte.
     pub return_at: u32,
-    /// The first byte of the code. Data and zeroed data follow at their places.
+    /// The first byte of the code. The data and the zeroed data follow at their places.
     pub code_at: u32,
-    /// What R9 holds at a call, modulo 2^32: the address of the data.
+    /// The value of R9 at a call, modulo 2^32: the address of the data.
     pub static_base: u32,
-    /// The first byte of the buffer, which has the bytes of a page, rounded up to a multiple of eight.
+    /// The first byte of the buffer. The buffer has the bytes of a page, rounded up to a multiple of eight.
     pub buffer_at: u32,
     /// The end of the stack, modulo 2^32.
     pub stack_top: u32,
-    /// The bytes from the RAM's first byte to the stack's end.
+    /// The number of bytes from the RAM's first byte to the stack's end.
     pub need: u64,
 }
 
@@ -48,8 +48,8 @@ fn round_up(number: u64) -> u64
     (number + 7) / 8 * 8
 }
 
-/// Lays an algorithm out in the RAM of a board. It is refused exactly where more bytes are needed than the RAM has. Its parts follow one
-/// another within the RAM, with a buffer for a page and a whole stack; buffer and stack are aligned.
+/// Makes the layout of an algorithm in the RAM of a board. It is refused exactly if more bytes are needed than the RAM has. The parts
+/// follow one another within the RAM, with a buffer for a page and a whole stack. Buffer and stack are aligned.
 pub fn place(algorithm: &Algorithm, board: &Board) -> Result<Layout, NoRoom>
     ensures exact { result ≡ placed (algorithm_of algorithm.now) (board_of board.now) }
     ensures parts { IfOk result (λ layout. IsLaidOut (algorithm.now.zero_at + algorithm.now.zero_len) algorithm.now.device.page

@@ -1,7 +1,7 @@
-//! Where a flash algorithm lies in the RAM of a target board.
+//! The layout of a flash algorithm in the RAM of a target board.
 //!
-//! From the RAM's first byte on stand the return point, the code with its data and zeroed data, the buffer for the bytes of a page, and
-//! the stack. `place` says at which addresses, or that the RAM is too small.
+//! The RAM begins with the return point. Then come the code with its data and zeroed data, the buffer for the bytes of a page, and the
+//! stack. `place` says at which addresses, or that the RAM is too small.
 #![tactic(auto)]
 
 mod layout;

@@ -4,13 +4,13 @@
 
 ghost use Rattle.campaign.specs.Campaign.{Campaign, IsCampaign, IsSafeCampaign};
 
-/// A campaign. It is a trait since a clause can't speak of each bench's history, and a ghost member can.
+/// A campaign. It is a trait because a ghost member can speak of each bench's history, and a clause can't.
 pub trait History {
     ghost campaign: { Campaign };
 }
 
-/// In every campaign each pair of a file and cells that a stop leaves is untouched, whole or finished, with the one job of
-/// the first call; and each later call that answers 0 leaves its goal.
+/// In every campaign, each pair of a file and cells that a stop leaves is untouched, whole or finished, with the one job of the first call.
+/// Each later call that answers 0 leaves its goal.
 pub fn campaigns_are_safe<H: History>()
     ensures { IsCampaign H.campaign → IsSafeCampaign H.campaign }
 {}

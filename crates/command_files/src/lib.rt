@@ -1,8 +1,8 @@
-//! What the files of a command say: a board, an algorithm for each of its regions where the command has FLM files, and the union of
-//! images in the board's regions; with the refusals of files, in their order. Taking the files comes first, and then they are read.
+//! What the files of a command say: a board, an algorithm for each of its regions where the command has FLM files, and the union of images
+//! in the board's regions. Files are refused for reasons in a fixed order. First all files are taken, and then they are read.
 //!
-//! And what a call of the program answers, whatever its command, as definitions that the commands' contracts cite: the four objects that it
-//! is handed, its answer, the counts of faults, and what stands after an early refusal.
+//! This crate also defines what a call of the program answers, for every command. The commands' contracts cite it: the four objects of a
+//! call, its answer, the counts of faults, and what an early refusal leaves.
 #![tactic(auto)]
 
 mod law;

@@ -14,7 +14,7 @@ use outside_io::{Inputs, LONGEST, TakeFault};
 use report_text::Refusal;
 use std::alloc::Global;
 
-/// The bytes of a command's files: a board, an FLM file where the command has one, and images.
+/// The bytes of a command's files: a board, an FLM file if the command has one, and the other files.
 #[derive(Drop)]
 pub struct Files {
     pub board: Bytes,

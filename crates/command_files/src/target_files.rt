@@ -1,4 +1,4 @@
-//! What a command on a target is to do.
+//! The files of a command on a target.
 ghost use Rattle.std.specs.Prelude.{◌≤◌, All, IsSome, IfOk, length};
 ghost use Rattle.std.specs.Option.{ForSome};
 ghost use Rattle.command_words.specs.Files.{names_in};
@@ -14,7 +14,7 @@ use outside_io::{Inputs, LONGEST};
 use report_text::Refusal;
 use std::alloc::Global;
 
-/// What the files of a command on a target want, with the bytes of the board's text and of the FLM file of each region.
+/// What the files of a command on a target want, with the bytes of the board's text and of each region's FLM file.
 #[derive(Drop)]
 pub struct TargetFiles {
     pub board_text: Bytes,

@@ -25,10 +25,10 @@ use octets::Bytes;
 use report_text::Refusal;
 use std::alloc::Global;
 
-/// The most bytes of a board's text that are parsed: 1 MiB. Parsing takes some forty times a text's length of memory.
+/// The longest text of a board that is parsed: 1 MiB. Parsing takes some forty times a text's length of memory.
 const LONGEST_BOARD: usize = 1_048_576;
 
-/// An image for the cells of a board's regions, and an algorithm for each region where the command has FLM files.
+/// An image for the cells of a board's regions, and an algorithm for each region if the command has FLM files.
 #[derive(Drop)]
 pub struct Wanted {
     pub board: Board,
@@ -108,7 +108,7 @@ fn count_others<'a>(board: &Board, files: &Files) -> Result<usize, Refusal<'a>>
     Ok(regions - 1)
 }
 
-/// The files from one on.
+/// The files from number `from` on.
 fn files_from(files: &[Bytes], from: usize) -> &[Bytes]
     requires { from ≤ length files.now }
     ensures { result.now ≡ drop from files.now }
@@ -116,7 +116,7 @@ fn files_from(files: &[Bytes], from: usize) -> &[Bytes]
     &files[from..]
 }
 
-/// The names from one on.
+/// The names from number `from` on.
 fn names_from(names: Names<'_>, from: usize) -> Names<'_>
     requires { from ≤ length (names_of names) }
     ensures { names_of result ≡ drop from (names_of names.entry) }
@@ -127,7 +127,7 @@ fn names_from(names: Names<'_>, from: usize) -> Names<'_>
     }
 }
 
-/// Reads the FLM files, where there is one: the first, and those for the board's further regions. Each has to be one for its region.
+/// Reads the FLM files, if there is a first one: that one, and those for the board's further regions. Each must fit its region.
 pub fn read_algorithms<'a>(
     alloc: Global,
     board: &Board,
@@ -149,7 +149,7 @@ pub fn read_algorithms<'a>(
     gather(alloc, one, Some(other))
 }
 
-/// One algorithm, or two.
+/// A list of one algorithm, or of two.
 fn gather<'a>(
     alloc: Global,
     one: Algorithm,
@@ -170,7 +170,7 @@ fn gather<'a>(
     Ok(algorithms)
 }
 
-/// Reads an FLM file, which has to be one for a region.
+/// Reads an FLM file, which must fit a region.
 fn read_one<'a>(
     alloc: Global,
     board: &Board,
@@ -184,7 +184,7 @@ fn read_one<'a>(
     Ok(algorithm)
 }
 
-/// Checks that an algorithm is for a region, and that the board's RAM has room for it.
+/// Checks that an algorithm fits a region, and that the board's RAM has room for it.
 fn check_algorithm<'a>(
     board: &Board,
     region: &Region,
@@ -217,7 +217,7 @@ fn check_place(image: &ByteMap, regions: &[Region]) -> Result<(), ImageFault>
     check_ranges(image, &[first, (regions[1].base, regions[1].size)])
 }
 
-/// Reads the images, each in its turn, and adds it to those before it.
+/// Reads the images in turn, and adds each to those before it.
 fn read_images<'a>(
     alloc: Global,
     raw_at: Option<u32>,

@@ -1,5 +1,5 @@
-//! The words of a command line, as `clap` reads them: a command, its addresses and its positional words. Which of these a
-//! command may have, and how many, is for the caller to say.
+//! The words of a command line, as `clap` reads them: a command, its addresses and its positional words. The caller decides which of these
+//! a command may have, and how many.
 #![tactic(auto)]
 
 mod line;

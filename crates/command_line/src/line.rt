@@ -1,4 +1,4 @@
-//! A line of words.
+//! Reading the words of a command line.
 ghost use Rattle.std.specs.Prelude.{◌≡◌, Some, None, IfOk, IfErr, option_map};
 ghost use Rattle.clap.specs.Walk.{rows_of};
 ghost use Rattle.clap.specs.Simple.{subcommand_rows_of};
@@ -14,7 +14,7 @@ use faults::OutOfMemory;
 use octets::Word;
 use std::alloc::Global;
 
-/// A command by its name, with the addresses that its options give and with its positional words, each in their order.
+/// A command by name, with the addresses that its options give and its positional words, each in their order.
 #[derive(Drop)]
 pub struct Line {
     pub command: Word,
@@ -22,12 +22,12 @@ pub struct Line {
     pub names: Vec<Word>,
 }
 
-/// Every word is text.
+/// Has no effect. Its contract says that every word is text.
 fn know_texts(words: &[Word])
     ensures { AreTexts words.now }
 {
     'words: for word in words {
-        // what is lent as a `str` is text
+        // a word that is lent as a `str` is text
         let _text = word.text();
     }
 }
@@ -44,7 +44,7 @@ fn copies(alloc: Global, texts: &[&str]) -> Result<Vec<Word>, OutOfMemory>
     Ok(found)
 }
 
-/// The values of an argument.
+/// The values that an argument has.
 fn values(alloc: Global, matches: &ArgMatches, id: &str) -> Result<Vec<Word>, OutOfMemory>
     ensures { IfOk result (λ v. v.items ≡ told id.now (rows_of (found_of matches.now))) }
 {
@@ -54,7 +54,7 @@ fn values(alloc: Global, matches: &ArgMatches, id: &str) -> Result<Vec<Word>, Ou
     }
 }
 
-/// The line of matches, or none where they have no command.
+/// The line that `clap` found, or none if it found no command.
 fn line_of(alloc: Global, matches: &ArgMatches) -> Result<Option<Line>, OutOfMemory>
     ensures { IfOk result (λ o. option_map shown o ≡ asked (subcommand_rows_of matches.now)) }
 {
@@ -75,8 +75,8 @@ fn line_of(alloc: Global, matches: &ArgMatches) -> Result<Option<Line>, OutOfMem
 ///
 /// # Errors
 ///
-/// `Usage` where the words name no command, or have another option than `--raw-at` before the first `--`, or that one without
-/// an address; `OutOfMemory` at any words.
+/// `Usage` if the words name no command, have an option other than `--raw-at` before the first `--`, or have a `--raw-at` without an
+/// address. `OutOfMemory` with any words.
 pub fn read_line(alloc: Global, words: &[Word]) -> Result<Line, LineFault>
     ensures ok { IfOk result (λ line. says words.now ≡ Some (shown line)) }
     ensures usage { IfErr result (λ f. f ≡ LineFault.Usage → says words.now ≡ None) }

@@ -1,4 +1,4 @@
-//! The words as `clap` parses them.
+//! Parsing the words with `clap`.
 ghost use Rattle.std.specs.Prelude.{◌≡◌, ◌≢◌, IfOk, IfErr, false, []};
 ghost use Rattle.clap.specs.Walk.{rule_of};
 ghost use Rattle.clap.specs.Simple.{app_of, subcommand_of, subcommand_rows_of};
@@ -11,7 +11,7 @@ use clap::{Arg, ArgAction, ArgMatches, Command};
 use octets::Word;
 use std::alloc::{AllocError, Global};
 
-/// The positional words, at least one where there are any.
+/// The argument for the positional words: at least one where it occurs.
 fn names<'a>(alloc: Global) -> Arg<'a>
     ensures rule { rule_of result ≡ names_rule }
     ensures local { result.global ≡ false }
@@ -21,7 +21,7 @@ fn names<'a>(alloc: Global) -> Arg<'a>
         .num_args(1..)
 }
 
-/// `--raw-at ADDR`.
+/// The argument `--raw-at ADDR`.
 fn address<'a>(alloc: Global) -> Arg<'a>
     ensures rule { rule_of result ≡ raw_rule }
     ensures local { result.global ≡ false }
@@ -52,7 +52,7 @@ fn bare_tool<'a>(alloc: Global) -> Command<'a>
         .subcommand_required(true)
 }
 
-/// The program with one command more.
+/// The program with one more command.
 fn with_command<'a>(
     alloc: Global,
     tool: Command<'a>,
@@ -63,7 +63,7 @@ fn with_command<'a>(
     tool.subcommand(leaf_of(alloc, name)?)
 }
 
-/// The program with its commands.
+/// The whole program, with all its commands.
 fn made<'a>(alloc: Global) -> Result<Command<'a>, AllocError>
     ensures { IfOk result (λ c. app_of c ≡ tool) }
 {
@@ -80,7 +80,7 @@ fn made<'a>(alloc: Global) -> Result<Command<'a>, AllocError>
     with_command(alloc, tool, "demo")
 }
 
-/// Why no line is read.
+/// Why a line is not read.
 #[derive(Clone, Copy)]
 pub enum LineFault {
     OutOfMemory,
@@ -89,7 +89,7 @@ pub enum LineFault {
     Usage,
 }
 
-/// What `clap` makes of the words.
+/// What `clap` finds in the words.
 pub fn matches_for<'a>(alloc: Global, words: &'a [Word]) -> Result<ArgMatches<'a>, LineFault>
     ensures taken { IfOk result (λ m. (fault_of tool words.entry.now ≡ []) × (subcommand_rows_of m ≡ subcommand_of tool words.entry.now)) }
     ensures usage { IfErr result (λ f. f ≡ LineFault.Usage → fault_of tool words.entry.now ≢ []) }

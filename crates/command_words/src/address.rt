@@ -3,7 +3,7 @@ ghost use Rattle.std.specs.Prelude.{◌≡◌, ◌≢◌, ◌≤◌, ◌<◌, �
 ghost use Rattle.std.specs.Str.Parse.{IsNumeral, digits_value};
 ghost use Rattle.command_words.specs.Words.{IsAddress};
 
-/// The address that a word is: `0x` and 1 to 8 hexadecimal digits, or decimal digits of a value below 2^32.
+/// The address that a word says: `0x` and 1 to 8 hexadecimal digits, or decimal digits of a value below 2^32.
 pub fn read_address(word: &str) -> Option<u32>
     ensures some { IfSome result (IsAddress word.now) }
     ensures none { IfNone result ((at : ℕ) → IsAddress word.now at → ⊥) }
@@ -15,7 +15,7 @@ pub fn read_address(word: &str) -> Option<u32>
     }
 }
 
-/// The number below 2^32 that digits of a radix write, at least one.
+/// The number that these digits write, if there is at least one digit and the number is below 2^32.
 pub fn read_number(digits: &str, radix: u32) -> Option<u32>
     requires low { 2 ≤ radix }
     requires high { radix ≤ 36 }
@@ -31,7 +31,7 @@ pub fn read_number(digits: &str, radix: u32) -> Option<u32>
     }
 }
 
-/// What follows a beginning of a text, where it has it.
+/// What follows `beginning` in a text, if the text begins with it.
 pub fn after<'a>(text: &'a str, beginning: &str) -> Option<&'a str>
     ensures { MatchOption result ((rest : List ℕ) → text.now ≢ beginning.now ++ rest) (λ rest. text.now ≡ beginning.now ++ rest.now) }
 {

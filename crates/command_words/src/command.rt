@@ -1,4 +1,4 @@
-//! The commands, with what each is given.
+//! The commands, with their files or their number.
 ghost use Rattle.std.specs.Prelude.{◌≡◌, ◌≢◌, IfSome, IfNone};
 ghost use Rattle.command_words.specs.Words.{text_of, form_text};
 ghost use Rattle.command_words.specs.declared.command.CommandName.{CommandName};
@@ -7,7 +7,7 @@ ghost use Rattle.command_words.specs.declared.command.TextForm.{TextForm};
 use crate::names::Names;
 use octets::Word;
 
-/// A command, as its first word names it.
+/// A command, named by its first word.
 #[derive(Clone, Copy)]
 pub enum CommandName {
     Program,
@@ -24,7 +24,7 @@ pub enum CommandName {
 }
 
 impl CommandName {
-    /// The command of a first word.
+    /// The command that a first word names.
     pub fn read(word: &Word) -> Option<CommandName>
         ensures some { IfSome result (λ name. word.now ≡ text_of name) }
         ensures none { IfNone result ((name : CommandName) → word.now ≢ text_of name) }
@@ -46,7 +46,7 @@ impl CommandName {
     }
 }
 
-/// How cells are written as a text.
+/// The text formats for cells.
 #[derive(Clone, Copy)]
 pub enum TextForm {
     /// Intel HEX.
@@ -57,7 +57,7 @@ pub enum TextForm {
 }
 
 impl TextForm {
-    /// The form that a word names.
+    /// The text format that a word names.
     pub fn read(word: &Word) -> Option<TextForm>
         ensures some { IfSome result (λ form. word.now ≡ form_text form) }
         ensures none { IfNone result ((form : TextForm) → word.now ≢ form_text form) }
@@ -70,8 +70,8 @@ impl TextForm {
     }
 }
 
-/// The files of a command by their names: a board, an FLM file where the command has one, and images. With an address there is
-/// one image, which is raw bytes from there on.
+/// The files of a command by name: a board, an FLM file if the command has one, and images. With an address there is one image, and its
+/// file is raw bytes from that address on.
 #[derive(Clone, Copy)]
 pub struct FileNames<'a> {
     pub raw_at: Option<u32>,
@@ -83,19 +83,19 @@ pub struct FileNames<'a> {
 /// A command with the names of its files, or with its number.
 #[derive(Clone, Copy)]
 pub enum Request<'a> {
-    /// Begins a job, and carries it to the union of images, on a board by an algorithm.
+    /// Begins a job with the union of images, on a board by an algorithm, and carries it out.
     Program(FileNames<'a>),
 
-    /// Begins a job with the union of images, on a board by an algorithm, and goes no further.
+    /// Begins a job with the union of images, on a board by an algorithm, and does no more.
     Begin(FileNames<'a>),
 
-    /// Carries the job in the job file to its image.
+    /// Carries out the job in the job file: the cells get its image.
     Resume,
 
-    /// Carries the job in the job file back to the cells as they were when it began.
+    /// Undoes the job in the job file: the cells become what they were when it began.
     Revert,
 
-    /// Prints what it would take to bring the union of images into the cells, on a board by an algorithm.
+    /// Prints what must be done to get the union of images into the cells, on a board by an algorithm.
     Plan(FileNames<'a>),
 
     /// Compares the cells with the union of images, on a board.
@@ -107,12 +107,12 @@ pub enum Request<'a> {
     /// Prints the job in the job file.
     Status,
 
-    /// Prints what this FLM file says of itself.
+    /// Prints what this FLM file says.
     Inspect { flm: &'a Word },
 
-    /// Puts the cells as a text of this form, on a board.
+    /// Prints the cells as a text in this format, on a board.
     Dump { form: TextForm, board: &'a Word },
 
-    /// Runs the job in memory that is made of this number.
+    /// Runs a job in memory that is made from this number.
     Demo { seed: u32 },
 }

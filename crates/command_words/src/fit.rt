@@ -1,4 +1,4 @@
-//! Whether addresses and positional words are what a command may have.
+//! Whether a command may have these addresses and positional words.
 ghost use Rattle.std.specs.Prelude.{◌≡◌, ◌↔◌, ℕ, List, [], ◌∷◌, IfSome, IfNone, IsTrue, Option, None, length, option_map};
 ghost use Rattle.command_words.specs.Files.{FilesAsked};
 ghost use Rattle.command_words.specs.Fits.{Fitted};
@@ -13,7 +13,7 @@ use crate::names::Names;
 use command_line::Line;
 use octets::Word;
 
-/// What a line makes of the command with this name, or none where it doesn't fit.
+/// The command that a line asks for under this name, or none if the line doesn't fit it.
 pub fn read_command(name: CommandName, line: &Line) -> Option<Request<'_>>
     ensures { (others : List (List ℕ)) → Spells others line.now → Fitted name others (option_map command_of result) }
 {
@@ -41,10 +41,10 @@ pub fn read_command(name: CommandName, line: &Line) -> Option<Request<'_>>
     }
 }
 
-/// The most images of a command.
+/// The most images that a command may have.
 const MOST_IMAGES: usize = 16;
 
-/// The address and the files of `verify`: a board and 1 to 16 images, and just one where an address is given.
+/// The address and the files of `verify`: a board and 1 to 16 images, or one image with an address.
 fn board_and_images(line: &Line) -> Option<FileNames<'_>>
     ensures some { IfSome result (λ files. (others : List (List ℕ)) → Spells others line.now → HasBoardAndImages others (files_of files)) }
     ensures none { IfNone result ((others : List (List ℕ)) → Spells others line.now → (files : FilesAsked) → HasBoardAndImages others files → ⊥) }
@@ -64,8 +64,7 @@ fn board_and_images(line: &Line) -> Option<FileNames<'_>>
     })
 }
 
-/// The address and the files of a command on a target: a board, an FLM file and 1 to 16 images, and just one where an address
-/// is given.
+/// The address and the files of a command on a target: a board, an FLM file and 1 to 16 images, or one image with an address.
 fn target_and_images(line: &Line) -> Option<FileNames<'_>>
     ensures some { IfSome result (λ files. (others : List (List ℕ)) → Spells others line.now → HasTargetAndImages others (files_of files)) }
     ensures none { IfNone result ((others : List (List ℕ)) → Spells others line.now → (files : FilesAsked) → HasTargetAndImages others files → ⊥) }
@@ -85,7 +84,7 @@ fn target_and_images(line: &Line) -> Option<FileNames<'_>>
     })
 }
 
-/// The address that options give, where there is at most one; or none where they don't fit.
+/// The address that the options give, if there is at most one option; none if they don't fit.
 fn raw_at(addresses: &[Word]) -> Option<Option<u32>>
     ensures some { IfSome result (Gives addresses.now) }
     ensures none { IfNone result ((at : Option ℕ) → Gives addresses.now at → ⊥) }
@@ -107,7 +106,7 @@ fn are_few(raw_at: Option<u32>, images: usize) -> bool
     }
 }
 
-/// The one positional word, where there is exactly one and no address.
+/// The positional word, if there is exactly one and no address.
 fn only_name(line: &Line) -> Option<&Word>
     ensures some { IfSome result (λ name. (others : List (List ℕ)) → Spells others line.now → Positional others (name.now ∷ [])) }
     ensures none { IfNone result ((others : List (List ℕ)) → Spells others line.now → (name : List ℕ) → Positional others (name ∷ []) → ⊥) }
@@ -124,7 +123,7 @@ fn only_name(line: &Line) -> Option<&Word>
     Some(name)
 }
 
-/// The form and the board of `dump`: the two positional words, where there are exactly two and no address.
+/// The format and the board of `dump`: the two positional words, if there are exactly two and no address.
 fn form_and_board(line: &Line) -> Option<(TextForm, &Word)>
     ensures some { IfSome result (λ p. (others : List (List ℕ)) → Spells others line.now → Positional others (form_text p.0 ∷ p.1.now ∷ [])) }
     ensures none { IfNone result ((others : List (List ℕ)) → Spells others line.now → (form : TextForm) (board : List ℕ)
@@ -143,7 +142,7 @@ fn form_and_board(line: &Line) -> Option<(TextForm, &Word)>
     Some((form, board))
 }
 
-/// The one positional word as a number in decimal digits, where there is exactly one and no address.
+/// The positional word as a number in decimal digits, if there is exactly one and no address.
 fn only_number(line: &Line) -> Option<u32>
     ensures some { IfSome result (λ number. (others : List (List ℕ)) → Spells others line.now → HasOneNumber others number) }
     ensures none { IfNone result ((others : List (List ℕ)) → Spells others line.now → (number : ℕ) → HasOneNumber others number → ⊥) }

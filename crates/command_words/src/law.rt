@@ -1,4 +1,4 @@
-//! A law of the words.
+//! The law on the words of a command line.
 ghost use Rattle.std.specs.Prelude.{◌≡◌, ℕ, List};
 ghost use Rattle.command_words.specs.Words as words;
 

@@ -14,15 +14,15 @@ use std::alloc::Global;
 /// The words of a command line, as they were read.
 #[derive(Drop)]
 pub enum CommandLine {
-    /// They fit no command.
+    /// The words fit no command.
     Faulty,
 
-    /// They have this form, which may still fit no command.
+    /// The words have this form, but may still fit no command.
     Line(Line),
 }
 
 impl CommandLine {
-    /// Reads words. Words that fit no command are no error: `request` answers none then.
+    /// Reads words. Words that fit no command are no error here: `request` then returns none.
     pub fn read(alloc: Global, words: &[Word]) -> Result<CommandLine, OutOfMemory>
         ensures { IfOk result (IsReadAs words.now) }
     {
@@ -33,7 +33,7 @@ impl CommandLine {
         }
     }
 
-    /// What the words ask for, or none where they fit no command.
+    /// The command that the words ask for, or none if they fit no command.
     pub fn request(&self) -> Option<Request<'_>>
         ensures { (words : List (List ℕ)) → IsReadAs words self.now → Asked words (option_map command_of result) }
     {
@@ -44,7 +44,7 @@ impl CommandLine {
     }
 }
 
-/// What a line asks for.
+/// The command that a line asks for.
 fn request_of(line: &Line) -> Option<Request<'_>>
     ensures { (words : List (List ℕ)) → IsLineOf words line.now → Asked words (option_map command_of result) }
 {

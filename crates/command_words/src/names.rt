@@ -4,21 +4,21 @@ ghost use Rattle.command_words.specs.Names.{names_of};
 
 use octets::Word;
 
-/// Names of a command line, in the order of its words.
+/// Names in a command line, in the order of its words.
 #[derive(Clone, Copy)]
 pub struct Names<'a> {
     pub words: &'a [Word],
 }
 
 impl<'a> Names<'a> {
-    /// How many there are.
+    /// How many names there are.
     pub fn len(&self) -> usize
         ensures { result ≡ length (names_of self.now) }
     {
         self.words.len()
     }
 
-    /// One of them.
+    /// The name with this number.
     pub fn name(&self, index: usize) -> &'a Word
         requires { index < length (names_of self.now) }
         ensures { slice_get (names_of self.now) index ≡ Some result.now }

@@ -1,4 +1,4 @@
-//! The sets of the plan that costs least, found from the marks of the pages.
+//! Choosing the plan with the least cost, from the marks of the pages.
 ghost use Rattle.std.specs.Prelude.{◌≡◌, false, ℕ, ◌+◌, ◌*◌, ◌^◌, ◌<◌, ◌≤◌, ◌&&◌, nat_lt, IsTrue, List, [], ◌∷◌, ◌++◌, length, vec_capacity};
 ghost use Rattle.page_geometry.specs.Cells.{count_below};
 ghost use Rattle.erase_planner.specs.Plans.{tests, chosen, made_of};
@@ -8,7 +8,7 @@ use crate::marks::Mark;
 use board_file::Weights;
 use page_geometry::Geometry;
 
-/// Fills the sets of the plan that costs least, and answers whether it erases the chip, and its cost.
+/// Fills the sets of the plan with the least cost, and returns whether it erases the chip, and its cost.
 pub fn choose(
     geometry: &Geometry,
     weights: &Weights,
@@ -27,7 +27,7 @@ pub fn choose(
     ensures pages_spare { vec_capacity pages.old ≤ vec_capacity pages.new }
 {
     let sector_count = geometry.sectors();
-    // `lawful` of this call: sectors and pages are partitions of the device
+    // the clause `lawful` of this call is used: sectors and pages are partitions of the device
     let _pages = geometry.pages();
     let erased = fill_sectors(geometry, marks, sectors);
     let programmed = fill_pages(geometry, marks, sectors, pages);
@@ -44,7 +44,7 @@ pub fn choose(
     }
 }
 
-/// Whether the chip is erased: it can be, and that costs strictly less.
+/// Whether the chip is erased: that is possible and costs strictly less.
 fn takes_chip(has_chip: bool, chip_cost: u64, sectors_cost: u64) -> bool
     ensures test { result ≡ (has_chip && nat_lt chip_cost sectors_cost) }
     ensures entry { IsTrue result → IsTrue has_chip }
@@ -67,7 +67,7 @@ fn must_erase(geometry: &Geometry, marks: &[Mark], sector: u32) -> bool
     requires sector { sector < length geometry.now.sectors }
     ensures { result ≡ erases_by geometry.now marks.now sector }
 {
-    // `limit` of this call: the numbers of pages are far below 2^32
+    // the clause `limit` of this call is used: page numbers are far below 2^32
     let _pages = geometry.pages();
     let (first, count) = geometry.pages_of(sector);
     for page in first..first + count {
@@ -79,14 +79,14 @@ fn must_erase(geometry: &Geometry, marks: &[Mark], sector: u32) -> bool
     false
 }
 
-/// Whether the page differs once the sectors of the set are empty.
+/// Whether the page differs after the sectors of the set are erased.
 fn must_program(geometry: &Geometry, marks: &[Mark], sectors: &[bool], page: u32) -> bool
     requires long { length marks.now ≡ length geometry.now.pages }
     requires set { length sectors.now ≡ length geometry.now.sectors }
     requires page { page < length geometry.now.pages }
     ensures { result ≡ programs_by geometry.now marks.now sectors.now page }
 {
-    // `lawful` of this call: the page lies in the sector of its first byte
+    // the clause `lawful` of this call is used: the page lies in the sector of its first byte
     let _pages = geometry.pages();
     let (place, _) = geometry.page(page);
     let mark = marks[page as usize];
@@ -145,7 +145,7 @@ fn fill_pages(geometry: &Geometry, marks: &[Mark], sectors: &[bool], pages: &mut
     count
 }
 
-/// How many pages aren't empty in the end.
+/// How many pages aren't wanted empty.
 fn count_wanted(marks: &[Mark]) -> u32
     requires { length marks.now ≤ 1048576 }
     ensures count { result ≡ count_below (length marks.now) (wanted_by marks.now) }
@@ -161,7 +161,7 @@ fn count_wanted(marks: &[Mark]) -> u32
     count
 }
 
-/// Fills the set of pages that aren't empty in the end.
+/// Fills the set of pages that aren't wanted empty.
 fn fill_wanted(marks: &[Mark], pages: &mut Vec<bool>)
     requires { length marks.now ≤ vec_capacity pages.old }
     ensures set { pages.new.items ≡ tests (length marks.now) (wanted_by marks.now) }
@@ -173,7 +173,7 @@ fn fill_wanted(marks: &[Mark], pages: &mut Vec<bool>)
     }
 }
 
-/// Fills an empty set of sectors.
+/// Fills a set that contains no sector.
 fn fill_none(count: u32, sectors: &mut Vec<bool>)
     requires { count ≤ vec_capacity sectors.old }
     ensures set { sectors.new.items ≡ tests count (λ s. false) }
@@ -185,7 +185,7 @@ fn fill_none(count: u32, sectors: &mut Vec<bool>)
     }
 }
 
-/// Appends within the capacity, and so takes no memory.
+/// Appends within the capacity, so it takes no memory.
 fn push_within(items: &mut Vec<bool>, value: bool)
     requires { length items.old.items < vec_capacity items.old }
     ensures items { items.new.items ≡ items.old.items ++ value ∷ [] }

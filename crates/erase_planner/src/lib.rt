@@ -1,5 +1,5 @@
-//! What to erase and to program so that a flash device comes from its old contents to the wanted ones at the least cost.
-//! A plan is made from both contents piece by piece, and holds no copy of either.
+//! What to erase and program so that a flash device gets its wanted contents at the least cost. A plan is made from the old and the wanted
+//! contents piece by piece, and keeps no copy of either.
 #![tactic(auto)]
 
 mod choose;

@@ -27,7 +27,7 @@ impl Mark {
         }
     }
 
-    /// The mark after one more byte.
+    /// The mark of a page after one more byte.
     fn with_byte(self, empty: u8, old: u8, want: u8) -> Mark
         ensures { result ≡ with_byte empty old want self }
     {
@@ -38,7 +38,7 @@ impl Mark {
         }
     }
 
-    /// Whether the page has to be erased: it must change and isn't empty.
+    /// Whether the page must be erased: it must change and isn't empty.
     pub fn needs_erasure(self) -> bool
         ensures { result ≡ needs_erasure self }
     {
@@ -46,7 +46,7 @@ impl Mark {
     }
 }
 
-/// Clears the marks, and sets a blank one for each of `count` pages.
+/// Clears the marks, and makes a blank mark for each of `count` pages.
 pub fn start_marks(count: u32, marks: &mut Vec<Mark>)
     requires { count ≤ vec_capacity marks.old }
     ensures long { length marks.new.items ≡ count }
@@ -59,7 +59,7 @@ pub fn start_marks(count: u32, marks: &mut Vec<Mark>)
     }
 }
 
-/// Appends a blank mark within the capacity, and so takes no memory.
+/// Appends a blank mark within the capacity, so it takes no memory.
 fn push_blank(marks: &mut Vec<Mark>)
     requires { length marks.old.items < vec_capacity marks.old }
     ensures items { marks.new.items ≡ marks.old.items ++ mark_at [] 0 ∷ [] }
@@ -68,7 +68,7 @@ fn push_blank(marks: &mut Vec<Mark>)
     let _pushed = marks.push(Mark::blank());
 }
 
-/// The page that a place lies in, and where it ends; `page` and `stop` are those of the place before.
+/// The page of a place, and the end of that page; `page` and `stop` are those of the place before.
 fn page_from(geometry: &Geometry, place: u32, page: u32, stop: u32) -> (u32, u32)
     requires inside { place < geometry.now.size }
     requires order { place ≤ stop }
@@ -87,7 +87,7 @@ fn page_from(geometry: &Geometry, place: u32, page: u32, stop: u32) -> (u32, u32
     }
 }
 
-/// Marks the pages of more bytes, from place `at` on.
+/// Updates the marks of the pages with more bytes, from place `at` on.
 pub fn feed_marks(
     geometry: &Geometry,
     empty: u8,
@@ -103,7 +103,7 @@ pub fn feed_marks(
         → AreMarks geometry.now empty (o ++ old.now) (w ++ want.now) marks.new }
     ensures long { length marks.new ≡ length geometry.now.pages }
 {
-    // `lawful` of this call: each place is in exactly one page. `limit` of the next: places are far below 2^32
+    // the clause `lawful` of this call is used: each place is in exactly one page; `limit` of the next one: places are far below 2^32
     let _pages = geometry.pages();
     let _size = geometry.size();
     let mut place = at;

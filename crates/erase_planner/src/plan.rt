@@ -1,4 +1,4 @@
-//! A plan, and how it is made.
+//! A plan, and making it.
 ghost use Rattle.std.specs.Prelude.{◌≡◌, ℕ, ◌+◌, ◌<◌, ◌≤◌, List, [], ◌++◌, length, get_or, false, true, ◌↔◌, IsTrue, OnOk, vec_capacity};
 ghost use Rattle.erase_planner.specs.Plans.{IsLeastPlan, IsEmptyPlan, made_of, nothing};
 ghost use Rattle.erase_planner.specs.Marks.{Fed, Covers, SpareStays};
@@ -11,8 +11,8 @@ use page_geometry::Geometry;
 use std::alloc::{AllocError, Global};
 use std::marker::Model;
 
-/// What to erase and to program: the whole chip or a set of sectors, then a set of pages with their wanted bytes. A plan is made, or
-/// in the making between `plan_start` and `plan_finish`.
+/// What to erase and program: the whole chip or a set of sectors, then a set of pages with the bytes wanted of them. A plan is made, or it
+/// is in the making between `plan_start` and `plan_finish`.
 #[derive(Drop)]
 pub struct Plan {
     chip: bool,
@@ -55,10 +55,10 @@ impl Plan {
         }
     }
 
-    /// Makes room for the sectors and pages of a device, so that the calls that make a plan take no memory.
+    /// Makes room for the sectors and pages of a device, so that making a plan takes no memory.
     pub fn reserve(&mut self, geometry: &Geometry) -> Result<(), OutOfMemory>
         ensures covers { OnOk result (Covers geometry.now self.new) }
-        // The plan stays, whatever the result.
+        // The plan itself stays, whatever the result.
         ensures made { self.new.made ≡ self.old.made }
         ensures marks { self.new.marks ≡ self.old.marks }
         ensures count { self.new.count ≡ self.old.count }
@@ -70,7 +70,7 @@ impl Plan {
         Ok(())
     }
 
-    /// Whether the sector is in the set of sectors to erase, which is empty where the chip is erased.
+    /// Whether the sector is in the set of sectors to erase. That set is empty if the chip is erased.
     pub fn sector_in(&self, index: u32) -> bool
         ensures { result ≡ get_or self.now.made.sectors index false }
     {
@@ -98,7 +98,7 @@ impl Plan {
         is_nothing(self.chip, &self.sectors, &self.pages)
     }
 
-    /// What the plan costs, in the unit of the weights.
+    /// The cost of the plan, in the unit of the weights.
     pub fn cost(&self) -> u64
         ensures { result ≡ self.now.made.cost }
     {
@@ -106,7 +106,7 @@ impl Plan {
     }
 }
 
-/// Begins a plan: no byte was fed.
+/// Begins a plan, with no byte fed.
 pub fn plan_start(geometry: &Geometry, plan: &mut Plan)
     requires { Covers geometry.now plan.old }
     ensures fed { (empty : ℕ) → Fed geometry.now empty plan.new [] [] }
@@ -123,8 +123,8 @@ pub fn plan_start(geometry: &Geometry, plan: &mut Plan)
     start_marks(geometry.pages(), &mut plan.marks);
 }
 
-/// Feeds a plan in the making with the next bytes: the old ones and the wanted ones. `empty` is the value of an erased byte, and
-/// the same at each call.
+/// Feeds a plan in the making with the next bytes: the old ones and the wanted ones. `empty` is the value of an erased byte; it is the same
+/// at each call.
 pub fn plan_feed(geometry: &Geometry, empty: u8, old: &[u8], want: &[u8], plan: &mut Plan)
     requires making { length plan.old.marks ≡ length geometry.now.pages }
     requires same { length old.now ≡ length want.now }
@@ -135,13 +135,13 @@ pub fn plan_feed(geometry: &Geometry, empty: u8, old: &[u8], want: &[u8], plan: 
     ensures made { plan.new.made ≡ plan.old.made }
     ensures spare { SpareStays plan.old plan.new }
 {
-    // `limit` of this call: as many bytes as the device has are a u32
+    // the clause `limit` of this call is used: the number of the device's bytes is a u32
     let _size = geometry.size();
     feed_marks(geometry, empty, plan.fed, old, want, &mut plan.marks);
     plan.fed += old.len() as u32;
 }
 
-/// Ends a plan in the making, once all bytes of the device were fed: it is the plan that costs least.
+/// Finishes a plan in the making, after all bytes of the device were fed: it is the plan with the least cost.
 pub fn plan_finish(geometry: &Geometry, weights: &Weights, has_chip: bool, plan: &mut Plan)
     requires covers { Covers geometry.now plan.old }
     requires making { length plan.old.marks ≡ length geometry.now.pages }
@@ -151,7 +151,7 @@ pub fn plan_finish(geometry: &Geometry, weights: &Weights, has_chip: bool, plan:
     ensures marks { plan.new.marks ≡ [] }
     ensures spare { SpareStays plan.old plan.new }
 {
-    // `lawful` of this call: on such sectors and pages the plan costs least
+    // the clause `lawful` of this call is used: with these sectors and pages the plan has the least cost
     let _lawful = geometry.pages();
     let (chip, cost) = choose(
         geometry,
@@ -167,8 +167,8 @@ pub fn plan_finish(geometry: &Geometry, weights: &Weights, has_chip: bool, plan:
     plan.fed = 0;
 }
 
-/// Makes the plan that costs least and leads from the old contents to the wanted ones. `has_chip` says whether the algorithm can
-/// erase the chip, `empty` is the value of an erased byte.
+/// Makes the plan with the least cost that leads from the old contents to the wanted ones. `has_chip` says whether the algorithm can erase
+/// the chip; `empty` is the value of an erased byte.
 pub fn plan_into(
     geometry: &Geometry,
     weights: &Weights,
@@ -212,7 +212,7 @@ fn is_none(set: &[bool]) -> bool
     true
 }
 
-/// Whether a plan of these asks for nothing.
+/// Whether a plan with these sets asks for nothing.
 fn is_nothing(chip: bool, sectors: &[bool], pages: &[bool]) -> bool
     ensures { IsTrue result ↔ IsEmptyPlan (made_of chip sectors.now pages.now 0) }
 {

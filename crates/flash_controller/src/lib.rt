@@ -1,5 +1,5 @@
-//! The flash controller FC1: registers that are unlocked by two keys, commands that program a unit, erase a sector or erase
-//! the chip, and operations that take a number of ticks. Its driver stands between the core's loads and stores and the bench.
+//! The flash controller FC1. Two keys unlock its registers. Its commands program a unit, erase a sector or erase the chip, and operations
+//! take a number of ticks. Its driver stands between the core's loads and stores and the bench.
 #![tactic(auto)]
 
 mod registers;

@@ -1,4 +1,4 @@
-//! What the registers answer and become.
+//! What the registers answer, and what stores do to them.
 ghost use Rattle.std.specs.Prelude.{◌≡◌};
 ghost use Rattle.flash_layout.specs.Areas.{cells_in};
 ghost use Rattle.flash_layout.specs.Maps.{map_of};
@@ -16,17 +16,17 @@ const BLOCK: u32 = 32;
 /// The offset of STATUS.
 const STATUS: u32 = 4;
 
-/// CMD that erases a sector.
+/// The value of CMD that erases a sector.
 const ERASE_SECTOR: u32 = 2;
 
-/// CMD that erases the chip.
+/// The value of CMD that erases the chip.
 const ERASE_CHIP: u32 = 3;
 
 /// The controller FC1 of a board.
 pub type Controller = Driver<State>;
 
 impl State {
-    /// A store to START.
+    /// Makes a store to START.
     #[tactic(auto, unfolding(crate::specs::Table::started))]
     fn start(&mut self, layout: &FlashMap, operation: Option<Operation>, value: u32) -> Effect
         ensures value { (result, self.new) ≡ started (map_of layout.now) self.old operation value }

@@ -1,30 +1,30 @@
-//! The registers.
+//! The registers of FC1.
 ghost use Rattle.std.specs.Prelude.{◌≡◌};
 ghost use Rattle.flash_controller.specs.Table.{is_ready, status, key_stored, status_stored, command_stored, address_stored};
 ghost use Rattle.flash_controller.specs.Table.{after_reset, may_program};
 
 use flash_layout::{Area, Lock, Operation, flag_value};
 
-/// What the registers hold.
+/// The contents of the registers.
 #[derive(Clone, Copy)]
 pub struct State {
-    /// How far it is unlocked.
+    /// How far the controller is unlocked.
     pub lock: Lock,
     /// DONE: an operation has ended.
     pub done: bool,
-    /// SEQ: an access came at the wrong time.
+    /// SEQ: an access was made in the wrong order.
     pub sequence: bool,
-    /// RANGE: an erasure was asked for outside the flash.
+    /// RANGE: an erasure outside the flash was asked for.
     pub range: bool,
-    /// NOTEMPTY: a unit was to be programmed that isn't erased.
+    /// NOTEMPTY: a unit that isn't erased was to be programmed.
     pub not_empty: bool,
-    /// CMD.
+    /// The register CMD.
     pub command: u32,
-    /// ADDR.
+    /// The register ADDR.
     pub address: u32,
 }
 
-/// CMD that programs units.
+/// The value of CMD that programs units.
 const PROGRAM: u32 = 1;
 
 /// The last command.
@@ -46,14 +46,14 @@ impl State {
         }
     }
 
-    /// Whether it is unlocked and no operation runs.
+    /// Whether the controller is unlocked and no operation runs.
     pub fn is_ready(&self, operation: Option<Operation>) -> bool
         ensures { result ≡ is_ready self.now operation }
     {
         self.lock.is_unlocked() && operation.is_none()
     }
 
-    /// STATUS, while this operation runs.
+    /// The value of STATUS, while this operation runs.
     #[inline(always)]
     pub fn status(&self, operation: Option<Operation>) -> u32
         ensures { result ≡ status self.now operation }
@@ -73,14 +73,14 @@ impl State {
         self.lock.is_unlocked() && self.command == PROGRAM && width == area.unit
     }
 
-    /// A store to KEY.
+    /// Makes a store to KEY.
     pub fn store_key(&mut self, value: u32)
         ensures { self.new ≡ key_stored self.old value }
     {
         self.lock = self.lock.after_key(value);
     }
 
-    /// A store to STATUS: the flags whose bits are set in the value are cleared.
+    /// Makes a store to STATUS: the flags whose bits are set in the value are cleared.
     pub fn store_status(&mut self, value: u32)
         ensures { self.new ≡ status_stored self.old value }
     {
@@ -90,7 +90,7 @@ impl State {
         self.not_empty = self.not_empty && (value / 16) % 2 == 0;
     }
 
-    /// A store to CMD.
+    /// Makes a store to CMD.
     pub fn store_command(&mut self, operation: Option<Operation>, value: u32)
         ensures { self.new ≡ command_stored self.old operation value }
     {
@@ -101,7 +101,7 @@ impl State {
         }
     }
 
-    /// A store to ADDR.
+    /// Makes a store to ADDR.
     pub fn store_address(&mut self, operation: Option<Operation>, value: u32)
         ensures { self.new ≡ address_stored self.old operation value }
     {

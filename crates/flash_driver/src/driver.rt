@@ -1,4 +1,4 @@
-//! The calls of a controller.
+//! The driver of a controller, between the core and the bench.
 ghost use Rattle.std.specs.Prelude.{◌≡◌, ◌<◌, ◌%◌, ◌^◌, ◌≤◌, ◌+◌, ◌⊎◌, ℕ, List, IsTrue, OnOk, OnErr, IfOk, IfSome, Ok, Err, Some, None, is_some, true, false, []};
 ghost use Rattle.faults.specs.Counts.{HasCause};
 ghost use Rattle.bench_model.specs.Act.{CellsDrop};
@@ -26,16 +26,16 @@ use std::alloc::Global;
 /// The most bytes of an access.
 const WORD: usize = 4;
 
-/// The controller of a board: where its flash lies, and what it holds.
+/// The driver of a board's controller: its map and its state.
 #[derive(Drop)]
 pub struct Driver<R> {
-    /// Where the flash and the registers lie.
+    /// The map of the flash and the registers.
     pub layout: FlashMap,
     /// The registers, and the operation that runs.
     pub state: State<R>,
 }
 
-/// Takes a tick of an operation that has more than one left: whether there was one. There is an operation.
+/// Counts an operation down by a tick if it has more than one left, and returns whether it did. There is an operation.
 #[inline(always)]
 fn lowers(operation: &mut Option<Operation>) -> bool
     requires { is_some operation.old ≡ true }
@@ -52,7 +52,7 @@ fn lowers(operation: &mut Option<Operation>) -> bool
 }
 
 impl<R: Registers> Driver<R> {
-    /// The controller of a board, as after a reset.
+    /// The controller of a board, after a reset.
     pub fn new(alloc: Global, board: &Board) -> Result<Driver<R>, OutOfMemory>
         ensures map { IfOk result (λ driver. map_of driver.layout ≡ with_block R.table (board_map (shown board.now))) }
         ensures state { IfOk result (λ driver. driver.state ≡ fresh R.table board.now.kind) }
@@ -92,7 +92,7 @@ impl<R: Registers> Driver<R> {
         self.layout.is_quiet(at)
     }
 
-    /// A load of `width` bytes (1, 2 or 4) from the address `at`, a multiple of it: the row's answer, or a device fault.
+    /// Loads `width` bytes (1, 2 or 4) from the address `at`, a multiple of the width. It answers what the row says, or a device fault.
     #[inline(always)]
     #[tactic(auto, unfolding(crate::specs::Table::load_row))]
     pub fn load<B: Bench>(&mut self, bench: &mut B, at: u32, width: u32) -> Result<u32, BusEnd>
@@ -124,8 +124,8 @@ impl<R: Registers> Driver<R> {
         }
     }
 
-    /// A store of `width` bytes (1, 2 or 4) to the address `at`, a multiple of it: the row's answer and state, or a device
-    /// fault and the state as it was.
+    /// Stores `width` bytes (1, 2 or 4) to the address `at`, a multiple of the width. It answers and leaves what the row says, or it
+    /// answers a device fault and leaves the state as it was.
     #[inline(always)]
     #[tactic(auto, unfolding(crate::specs::Table::store_row))]
     pub fn store<B: Bench>(
@@ -167,7 +167,7 @@ impl<R: Registers> Driver<R> {
         }
     }
 
-    /// Opens the operation that a store begins. Where that fails the registers are again as they were before it.
+    /// Opens the operation that a store begins. If that fails, the registers are as they were before the store.
     #[inline(always)]
     fn take<B: Bench>(&mut self, bench: &mut B, before: R, effect: Effect) -> Result<(), BusEnd>
         requires agrees { DriverAgrees B.tells self.old.layout self.old.state (B.state bench.old) }
@@ -195,7 +195,7 @@ impl<R: Registers> Driver<R> {
         }
     }
 
-    /// A store to a cell, where no operation runs.
+    /// Makes a store to a cell, where no operation runs.
     #[inline(always)]
     fn program<B: Bench>(
         &mut self,
@@ -232,7 +232,7 @@ impl<R: Registers> Driver<R> {
         self.take(bench, before, effect)
     }
 
-    /// A load from outside the RAM: as `load`, but 0 in a quiet range where nothing else takes it.
+    /// Loads from outside the RAM like `load`. In a quiet range where nothing else answers, it gives 0.
     #[inline(always)]
     pub fn load_or_quiet<B: Bench>(
         &mut self,
@@ -256,7 +256,7 @@ impl<R: Registers> Driver<R> {
         }
     }
 
-    /// What a load of the word at an offset of the block answers, where that is a register that programs read while they wait: it asks no bench.
+    /// The answer to a load of a register that programs read while they wait; none for every other word of the block. No bench is called.
     #[inline(always)]
     pub fn peek(&self, offset: u32) -> Option<u32>
         requires { offset < self.now.layout.block }
@@ -267,7 +267,7 @@ impl<R: Registers> Driver<R> {
         self.state.registers.peek(self.state.operation, offset)
     }
 
-    /// A store outside the RAM: as `store`, but nothing in a quiet range where nothing else takes it.
+    /// Stores outside the RAM like `store`. In a quiet range where nothing else answers, it does nothing.
     #[inline(always)]
     pub fn store_or_quiet<B: Bench>(
         &mut self,
@@ -292,7 +292,8 @@ impl<R: Registers> Driver<R> {
         }
     }
 
-    /// A tick of the operation that runs, if it has more than one left, which changes no cell: whether it has. Else all is as it was.
+    /// Makes a tick of the operation that runs, if it has more than one left, and returns whether it has. Such a tick changes no cell.
+    /// Otherwise nothing changes.
     #[inline(always)]
     pub fn runs_on(&mut self) -> bool
         requires { is_running self.old.state ≡ true }
@@ -305,7 +306,7 @@ impl<R: Registers> Driver<R> {
         lowers(&mut self.state.operation)
     }
 
-    /// A tick: the row's state and cells, or a device fault and both as they were.
+    /// Makes a tick. It leaves the state and the cells that the row says, or answers a device fault and leaves both as they were.
     #[tactic(auto, unfolding(crate::specs::Table::tick_row))]
     pub fn tick<B: Bench>(&mut self, bench: &mut B) -> Result<(), DeviceFault>
         requires agrees { DriverAgrees B.tells self.old.layout self.old.state (B.state bench.old) }
@@ -322,7 +323,7 @@ impl<R: Registers> Driver<R> {
         }
     }
 
-    /// A tick while this operation runs.
+    /// Makes a tick while this operation runs.
     #[tactic(auto, using(flash_layout::proofs::WorkLemmas::tick_more, flash_layout::proofs::WorkLemmas::tick_last))]
     fn tick_running<B: Bench>(
         &mut self,
@@ -356,7 +357,7 @@ impl<R: Registers> Driver<R> {
         }
     }
 
-    /// Starts anew, and asks no bench.
+    /// Restarts as after a reset, without calling a bench.
     pub fn restart(&mut self)
         ensures state { self.new.state ≡ fresh R.table self.old.layout.kind }
         ensures layout { self.new.layout ≡ self.old.layout }
@@ -367,7 +368,7 @@ impl<R: Registers> Driver<R> {
         };
     }
 
-    /// Breaks off an operation that is open on the bench, and starts anew. After a device fault all is as it was.
+    /// Breaks off an operation that is open on the bench, and restarts as after a reset. A device fault leaves everything as it was.
     pub fn reset<B: Bench>(&mut self, bench: &mut B) -> Result<(), DeviceFault>
         requires { (B.state bench.old).cell_count ≡ cells_in self.old.layout.areas.items }
         ensures drops { B.acts bench.old (CellsDrop result) bench.new }

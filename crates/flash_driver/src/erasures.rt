@@ -1,4 +1,4 @@
-//! What controllers begin.
+//! The operations that erase.
 ghost use Rattle.std.specs.Prelude.{◌≡◌, IfSome};
 ghost use Rattle.flash_layout.specs.Areas.{cells_in};
 ghost use Rattle.flash_layout.specs.Maps.{map_of};
@@ -7,7 +7,7 @@ ghost use Rattle.flash_driver.specs.Table.{MayRun};
 
 use flash_layout::{FlashMap, Operation, Work};
 
-/// The erasure of the sector that holds an address; none for an address outside the flash.
+/// The operation that erases the sector with an address; none for an address outside the flash.
 pub fn erases_sector(layout: &FlashMap, at: u32) -> Option<Operation>
     ensures value { result ≡ erases_sector (map_of layout.now) at }
     ensures begins { IfSome result (λ o. MayRun (cells_in layout.now.areas.items) o) }
@@ -22,7 +22,7 @@ pub fn erases_sector(layout: &FlashMap, at: u32) -> Option<Operation>
     Some(Operation { work, place, ticks })
 }
 
-/// The erasure of all cells of the first area.
+/// The operation that erases all cells of the first area.
 pub fn erases_first(layout: &FlashMap) -> Option<Operation>
     ensures value { result ≡ erases_first (map_of layout.now) }
     ensures begins { IfSome result (λ o. MayRun (cells_in layout.now.areas.items) o) }
@@ -37,7 +37,7 @@ pub fn erases_first(layout: &FlashMap) -> Option<Operation>
     Some(Operation { work, place, ticks })
 }
 
-/// Whether all bytes are this one.
+/// Whether all bytes have this value.
 pub fn all_are(empty: u8, bytes: &[u8]) -> bool
     ensures { result ≡ all_are empty bytes.now }
 {

@@ -1,6 +1,6 @@
-//! What drives the bench for a flash controller of whichever kind. A controller is its registers alone, by the trait `Registers`: eight functions
-//! that touch no bench. `Driver` stands between the core's loads and stores and the bench that holds the cells. Nothing else opens, settles or
-//! breaks off an operation on the cells.
+//! The driver between a flash controller of any kind and the bench. A controller is only its registers, by the trait `Registers`: eight
+//! functions that call no bench. `Driver` stands between the core's loads and stores and the bench that has the cells. Nothing else opens,
+//! settles or breaks off an operation on the cells.
 #![tactic(auto)]
 
 mod driver;

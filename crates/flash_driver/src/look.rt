@@ -1,4 +1,4 @@
-//! Looking at cells.
+//! Reading cells.
 ghost use Rattle.std.specs.Prelude.{◌≡◌, ◌≤◌, ◌+◌, ◌⊎◌, length, IsTrue, Ok, Err, None};
 ghost use Rattle.bench_model.specs.Device.{is_device};
 ghost use Rattle.bench_model.specs.Counted.{IsCounted};
@@ -8,7 +8,7 @@ ghost use Rattle.flash_layout.specs.Cells.{cells_at};
 
 use bench_model::{Bench, BusEnd, DeviceFault};
 
-/// Looks at the cells from a place on.
+/// Reads the cells from a place on.
 #[inline(always)]
 pub(crate) fn look<B: Bench>(bench: &mut B, place: u32, out: &mut [u8]) -> Result<(), BusEnd>
     requires range { place + length out.old ≤ (B.state bench.old).cell_count }

@@ -1,4 +1,4 @@
-//! What an access goes to.
+//! What an access to an address goes to.
 ghost use Rattle.std.specs.Prelude.{◌≡◌};
 ghost use Rattle.flash_layout.specs.Maps.{map_of};
 ghost use Rattle.flash_driver.specs.Places.{place_of, PlaceInside};
@@ -8,14 +8,14 @@ use flash_layout::{FlashMap, Found};
 /// What an access goes to: a word of the controller's block, a cell of the flash, or nothing.
 #[derive(Clone, Copy)]
 pub enum Place {
-    /// A word of the block, where a register may be.
+    /// A word of the block, where there may be a register.
     Register {
         /// The offset of the word in the block.
         offset: u32,
     },
     /// A cell of the flash.
     Flash {
-        /// The cell, and its area.
+        /// The cell, with its area.
         found: Found,
     },
     /// Nothing answers there.

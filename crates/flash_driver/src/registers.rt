@@ -5,17 +5,17 @@ use crate::state::Effect;
 use board_file::ControllerKind;
 use flash_layout::{Area, FlashMap, Found, Operation};
 
-/// A controller is its registers: what they answer and become. They touch no bench.
+/// The registers of a controller: what they answer, and what stores do to them. They call no bench.
 pub trait Registers: Copy {
     ghost use Rattle.flash_layout.specs.Areas.{cells_in};
     ghost use Rattle.flash_layout.specs.Bench.{IsWidth};
     ghost use Rattle.flash_layout.specs.Maps.{map_of};
     ghost use Rattle.flash_driver.specs.Table.{Table, MayBegin};
 
-    /// The table.
+    /// The controller's table.
     ghost table: { Table Self };
 
-    /// The bytes of the block, on a board of this kind.
+    /// The bytes of the register block, on a board of this kind.
     fn block(kind: ControllerKind) -> u32
         ensures { result ≡ table.block kind };
 
@@ -23,11 +23,11 @@ pub trait Registers: Copy {
     fn fresh(kind: ControllerKind) -> Self
         ensures { result ≡ table.fresh kind };
 
-    /// What the register at an offset answers to a load, while this operation runs; none where there is no register.
+    /// The answer of the register at an offset to a load, while this operation runs; none where there is no register.
     fn load(&self, operation: Option<Operation>, offset: u32) -> Option<u32>
         ensures { result ≡ table.load self.now operation offset };
 
-    /// What the register answers that programs read while they wait; none for every other.
+    /// The answer of a register that programs read while they wait; none for every other register.
     fn peek(&self, operation: Option<Operation>, offset: u32) -> Option<u32>
         ensures even { IfSome result (λ value. offset % 4 ≡ 0) }
         ensures value { IfSome result (λ value. Some value ≡ table.load self.now operation offset) }
@@ -35,7 +35,7 @@ pub trait Registers: Copy {
         None
     }
 
-    /// A store to the register at an offset, while this operation runs.
+    /// Makes a store to the register at an offset, while this operation runs.
     fn store(
         &mut self,
         layout: &FlashMap,
@@ -46,11 +46,11 @@ pub trait Registers: Copy {
         ensures row { (result, self.new) ≡ table.store (map_of layout.now) self.old operation offset value }
         ensures begins { MayBegin (cells_in layout.now.areas.items) operation result };
 
-    /// Whether a store to a cell of the area looks at the cells there. No operation runs.
+    /// Whether a store to a cell of the area looks at the cells there, where no operation runs.
     fn looks(&self, area: &Area, width: u32, value: u32) -> bool
         ensures { result ≡ table.looks self.now area.now width value };
 
-    /// A store to a cell, which sees these cells if it looks at them. No operation runs.
+    /// Makes a store to a cell, where no operation runs. It is given the cells there if it looks at them.
     fn program(
         &mut self,
         layout: &FlashMap,
@@ -65,7 +65,7 @@ pub trait Registers: Copy {
         ensures row { (result, self.new) ≡ table.program (map_of layout.now) self.old found width value seen.now }
         ensures begins { MayBegin (cells_in layout.now.areas.items) None result };
 
-    /// The end of an operation.
+    /// Makes the end of an operation.
     fn end(&mut self)
         ensures { self.new ≡ table.ended self.old };
 }

@@ -1,8 +1,8 @@
-//! What a controller holds, and what a store to it does.
+//! The state of a controller, and the effect of a store.
 
 use flash_layout::Operation;
 
-/// What a controller holds: its registers, and the operation that runs.
+/// The state of a controller: its registers, and the operation that runs.
 #[derive(Clone, Copy)]
 pub struct State<R> {
     /// The registers.
@@ -11,14 +11,14 @@ pub struct State<R> {
     pub operation: Option<Operation>,
 }
 
-/// What a store does, beside what it leaves in the registers.
+/// The effect of a store, apart from the registers.
 #[derive(Clone, Copy)]
 pub enum Effect {
-    /// A bus fault: nothing takes it.
+    /// A bus fault: nothing answers the store.
     Fault,
-    /// Nothing more.
+    /// Nothing more happens.
     Taken,
-    /// It begins an operation.
+    /// The store begins an operation.
     Begins {
         /// The operation.
         operation: Operation,

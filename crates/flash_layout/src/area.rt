@@ -1,4 +1,4 @@
-//! An area of flash, and what a look-up finds in one.
+//! An area of flash, and the result of looking an address up.
 ghost use Rattle.std.specs.Prelude.{◌≡◌};
 ghost use Rattle.flash_layout.specs.Areas.{holds, area_of};
 
@@ -9,20 +9,20 @@ use board_file::Region;
 pub struct Area {
     /// The address of the first byte.
     pub base: u32,
-    /// How many bytes it has.
+    /// How many bytes the area has.
     pub size: u32,
-    /// What an erased byte holds.
+    /// The value of an erased byte.
     pub empty: u8,
-    /// The bytes that one store programs, 2 or 4.
+    /// The bytes that one store programs: 2 or 4.
     pub unit: u32,
 }
 
-/// The area that holds an address, and the cell of that address.
+/// The area of an address, and the cell of that address.
 #[derive(Clone, Copy)]
 pub struct Found {
     /// The area.
     pub area: Area,
-    /// The cell's place: its number from 0, through all areas.
+    /// The cell's place: its number from 0 on, counted through all areas.
     pub place: u32,
 }
 
@@ -33,7 +33,7 @@ pub struct SectorCells {
     pub place: u32,
     /// How many cells there are.
     pub len: u32,
-    /// What an erased cell holds.
+    /// The value of an erased cell.
     pub empty: u8,
 }
 
@@ -50,7 +50,7 @@ impl Area {
         }
     }
 
-    /// Whether the address lies in it.
+    /// Whether the address lies in the area.
     pub fn holds(&self, at: u32) -> bool
         ensures { result ≡ holds self.now at }
     {

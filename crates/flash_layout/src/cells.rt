@@ -1,4 +1,4 @@
-//! The cells, as a controller reads and settles them.
+//! Reading and settling cells for a controller.
 ghost use Rattle.std.specs.Prelude.{◌≡◌, ◌≤◌, ◌<◌, ◌+◌, ◌^◌, ◌⊎◌, length, Ok, Err, IsTrue, OnOk, OnErr, IfOk, Some, None};
 ghost use Rattle.faults.specs.Counts.{HasCause};
 ghost use Rattle.bench_model.specs.Calls.{written};
@@ -16,7 +16,7 @@ use bench_model::{Bench, BusEnd, DeviceFault};
 /// The most bytes of an access.
 const WORD: usize = 4;
 
-/// The number whose bytes these are, the lowest first. There are at most four.
+/// The number with these bytes, the lowest byte first. There are at most four.
 #[inline(always)]
 fn little_endian(bytes: &[u8]) -> u32
     requires { length bytes.now ≤ 4 }
@@ -57,7 +57,7 @@ pub fn read<B: Bench>(bench: &mut B, place: u32, width: u32) -> Result<u32, BusE
     }
 }
 
-/// Ends the operation on the bench with what it leaves.
+/// Ends an operation on the bench: its cells get its bytes.
 pub fn settle<B: Bench>(bench: &mut B, operation: &Operation) -> Result<(), DeviceFault>
     requires { IsTrue B.tells → (B.state bench.old).operation ≡ range_of (Some operation.now) }
     ensures ok { IsTrue B.tells → OnOk result (((B.state bench.new).operation ≡ None)

@@ -1,4 +1,4 @@
-//! Where the cells of a board lie.
+//! The map of a board's flash.
 ghost use Rattle.std.specs.Prelude.{◌≡◌, ◌<◌, ◌^◌, IfSome, IsTrue, length};
 ghost use Rattle.std.specs.List.{list_all};
 ghost use Rattle.board_file.specs.Limits.{run_fits};
@@ -9,7 +9,7 @@ ghost use Rattle.board_file.specs.Laws.{sector_at};
 use crate::{Area, Found, SectorCells};
 use board_file::{ControllerKind, QuietRange, SectorRun};
 
-/// The areas of a board in order, the sectors of all of them in order, the controller's kind, its registers and its ticks.
+/// The areas of a board in order, the sectors of all areas in order, the controller's kind, its registers, its ticks, and the quiet ranges.
 #[derive(Drop)]
 pub struct FlashMap {
     /// The kind of the controller.
@@ -20,13 +20,13 @@ pub struct FlashMap {
     pub runs: Vec<SectorRun>,
     /// The address of the controller's registers.
     pub base: u32,
-    /// The bytes of their block.
+    /// The bytes of the register block.
     pub block: u32,
-    /// Ticks that programming a unit takes.
+    /// The ticks to program a unit.
     pub program_ticks: u32,
-    /// Ticks that erasing a sector takes.
+    /// The ticks to erase a sector.
     pub erase_ticks: u32,
-    /// Ticks that erasing an area takes.
+    /// The ticks to erase an area.
     pub chip_ticks: u32,
     /// The quiet ranges.
     pub quiet: Vec<QuietRange>,
@@ -57,7 +57,7 @@ impl FlashMap {
         cells
     }
 
-    /// The area that holds an address, and the cell there; none for an address outside the flash.
+    /// The area of an address, and the cell there; none for an address outside the flash.
     pub fn find(&self, at: u32) -> Option<Found>
         ensures value { result ≡ find self.now.areas.items 0 at }
         ensures inside { IfSome result (λ found. FoundInside self.now.areas.items at found) }
@@ -73,7 +73,7 @@ impl FlashMap {
         None
     }
 
-    /// The cells of the sector that holds a cell; `empty` is what they hold once it is erased.
+    /// The cells of the sector that contains a cell; `empty` is the value of an erased one.
     fn sector_in(&self, place: u32, empty: u8) -> Option<SectorCells>
         ensures { result ≡ sector_cells empty (sector_at self.now.runs.items place) }
     {
@@ -93,7 +93,7 @@ impl FlashMap {
         None
     }
 
-    /// The cells of the sector that holds an address; none for an address outside the flash.
+    /// The cells of the sector with an address; none for an address outside the flash.
     pub fn sector_of(&self, at: u32) -> Option<SectorCells>
         ensures value { result ≡ sector_of self.now.areas.items self.now.runs.items at }
         ensures inside { IfSome result (λ sector. AreInside (cells_in self.now.areas.items) sector) }

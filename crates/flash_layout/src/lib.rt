@@ -1,9 +1,8 @@
-//! Where the flash of a board lies for the controller that changes it: the areas in order, whose cells are numbered through,
-//! the sectors of all of them, and the controller's registers.
+//! The map of a board's flash for the controller that changes it: the areas in order, with their cells numbered through, the sectors of all
+//! areas, and the controller's registers.
 //!
-//! It is what every kind of flash controller shares: which cell an address names, which sector holds it, the lock with its
-//! two keys, the operation that runs and the ticks that it takes, and in which way a load, a store, a tick or a reset may
-//! touch the bench.
+//! Every kind of flash controller shares this map. It says which cell an address names, and which sector contains it. It also has the lock
+//! with its two keys, and the operation that runs, with its ticks. It says how a load, a store, a tick or a reset may change the bench.
 #![tactic(auto)]
 
 mod area;

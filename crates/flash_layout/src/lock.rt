@@ -9,9 +9,9 @@ pub enum Lock {
     Locked,
     /// The first key was seen.
     FirstKey,
-    /// Both keys were seen, one after the other.
+    /// Both keys were seen, in their order.
     Unlocked,
-    /// A wrong key was seen: only a reset helps.
+    /// A wrong key was seen; only a reset makes the keys work again.
     Barred,
 }
 
@@ -26,7 +26,7 @@ impl Lock {
         matches!(self, Lock::Unlocked)
     }
 
-    /// After a store to the register of the keys.
+    /// The lock after a store to the key register.
     pub fn after_key(self, value: u32) -> Lock
         ensures { result ≡ next_lock self value }
     {
@@ -38,7 +38,7 @@ impl Lock {
     }
 }
 
-/// The value of a flag's bit where the flag is set.
+/// What a flag adds to a register: its bit if the flag is set, else 0.
 pub fn flag_value(set: bool, bit: u32) -> u32
     ensures { result ≡ flag_value set bit }
 {

@@ -9,7 +9,7 @@ use faults::OutOfMemory;
 use std::alloc::Global;
 
 impl FlashMap {
-    /// The map of a board: its regions in order, and the sectors of all of them.
+    /// The map of a board: its regions in order, and the sectors of all regions.
     pub fn of(alloc: Global, board: &Board) -> Result<FlashMap, OutOfMemory>
         ensures { IfOk result (λ layout. map_of layout ≡ board_map (shown board.now)) }
     {

@@ -15,7 +15,7 @@ pub enum Work {
         /// The word.
         value: u32,
     },
-    /// Cells that hold one byte alone.
+    /// Cells that all hold one byte.
     Fill {
         /// How many cells.
         len: u32,
@@ -27,16 +27,16 @@ pub enum Work {
 /// An operation that runs.
 #[derive(Clone, Copy)]
 pub struct Operation {
-    /// What it leaves.
+    /// What the operation leaves.
     pub work: Work,
-    /// The place of its first cell.
+    /// The place of the operation's first cell.
     pub place: u32,
     /// The ticks that are left.
     pub ticks: u32,
 }
 
 impl Work {
-    /// How many cells it covers.
+    /// How many cells the operation covers.
     pub fn len(&self) -> u32
         ensures { result ≡ work_len self.now }
     {
@@ -48,7 +48,7 @@ impl Work {
     }
 }
 
-/// What the store of a unit leaves: a halfword, or else a word.
+/// What storing a unit leaves: a halfword for a width of 2, else a word.
 pub fn unit_work(width: u32, value: u32) -> Work
     ensures { result ≡ unit_work width value }
 {

@@ -1,4 +1,4 @@
-//! The script and the comparison.
+//! Carrying out a survey: the script and the comparison.
 ghost use Rattle.std.specs.Prelude.{◌≡◌, IsTrue, None};
 ghost use Rattle.bench_model.specs.Counted.{is_store_fault, is_device_fault, IsCounted};
 ghost use Rattle.board_file.specs.Limits.{size_of};
@@ -14,7 +14,7 @@ use crate::session::SessionEnd;
 use bench_model::Bench;
 use job_text::Job;
 
-/// Starts the player of a survey anew, which plays the script of its plans and compares the cells with its goal.
+/// Restarts the player of a survey. It plays the script of the survey's plans and compares the cells with the goal.
 pub(crate) fn carry_out<B: Bench>(survey: &mut Survey, job: &Job, bench: &mut B) -> SessionEnd
     requires work { IsSurvey job.now survey.old }
     requires count { (B.state bench.old).cell_count ≡ size_of job.now.board.regions }

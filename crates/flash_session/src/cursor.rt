@@ -1,4 +1,4 @@
-//! Where a target stands.
+//! The place of a target in its script.
 ghost use Rattle.std.specs.Prelude.{◌≡◌};
 ghost use Rattle.flash_session.specs.Regions.{other_than};
 
@@ -6,7 +6,7 @@ use crate::phase::Phase;
 use crate::target_end::TargetEnd;
 use algo_calls::Call;
 
-/// A region of a board that has one or two.
+/// A region of a board that has one or two regions.
 #[derive(Clone, Copy, PartialEq, Eq)]
 pub enum RegionIndex {
     First,
@@ -14,7 +14,7 @@ pub enum RegionIndex {
 }
 
 impl RegionIndex {
-    /// The other one of two.
+    /// The other of two regions.
     pub(crate) fn other(self) -> RegionIndex
         ensures { result ≡ other_than self }
     {
@@ -25,20 +25,20 @@ impl RegionIndex {
     }
 }
 
-/// Where a target stands in its script, between two moves. Each phase is of a region.
+/// The place of a target in its script, between two moves. Each phase belongs to a region.
 #[derive(Clone, Copy)]
 pub enum Cursor {
-    /// Before a phase, or what follows it where it is left out.
+    /// Before a phase; if the phase has no calls, before whatever follows it.
     Begin {
         region: RegionIndex,
         phase: Phase,
     },
-    /// Loaded, before its Init.
+    /// Loaded, before the phase's Init.
     Init {
         region: RegionIndex,
         phase: Phase,
     },
-    /// Among its calls, before the one for this sector or page, or a later one.
+    /// Among the phase's calls, before the call for this sector or page, or the next one that is planned.
     Calls {
         region: RegionIndex,
         phase: Phase,
@@ -48,10 +48,10 @@ pub enum Cursor {
     Last,
 }
 
-/// Where a target stands between two turns.
+/// The place of a target between two turns.
 #[derive(Clone, Copy)]
 pub enum Place {
-    /// Between two moves of its script.
+    /// Between two moves of the script.
     At(Cursor),
     /// In a call with `len` bytes and `left` steps of fuel. The next move is at the cursor.
     In {
@@ -60,13 +60,13 @@ pub enum Place {
         left: u64,
         next: Cursor,
     },
-    /// The script is done, and the cells before this place are the goal's.
+    /// All moves of the script are made, and the cells before this place are the goal's.
     Comparing {
         at: u32,
     },
     /// The cells are the goal.
     Closing,
-    /// It has ended.
+    /// The target has ended.
     Ended(TargetEnd),
 }
 

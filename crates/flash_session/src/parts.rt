@@ -1,12 +1,13 @@
-//! What a session gives up.
+//! The parts of a session that its caller may take.
 use crate::player::Player;
 use job_text::Job;
 
-/// A job, and the player of its script to the goal of the last survey, before its first move. It may be given any window of an arena.
+/// A job, and the player of its script with the goal of the last survey, before its first move. The player may be given any window of an
+/// arena.
 #[derive(Drop)]
 pub struct Parts {
     /// The job.
     pub job: Job,
-    /// The calls, the goal, and the work on each region of the job's board.
+    /// The player, with its calls, the goal, and the plan of each region of the job's board.
     pub player: Player,
 }

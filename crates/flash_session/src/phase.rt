@@ -1,6 +1,6 @@
 //! The phases of a script.
 
-/// A phase of a script in a region.
+/// A phase of the script of a region.
 #[derive(Clone, Copy)]
 pub enum Phase {
     /// The region's sectors are erased, or the whole chip.

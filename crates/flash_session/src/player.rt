@@ -52,7 +52,7 @@ pub struct Player {
     pub calls: CallsIn,
     /// The region whose machine moved last.
     pub moved: RegionIndex,
-    /// The calls of the other region, where the board has two.
+    /// The calls of the other region, if the board has two.
     pub other: Option<CallsIn>,
     pub window: usize,
     pub work: SessionWork,
@@ -82,7 +82,7 @@ impl Player {
         self.calls_on(region).algorithm().entries.verify.is_some()
     }
 
-    /// The next call of a phase of a region.
+    /// The next call of a phase of a region, from item `index` on.
     fn item(&self, region: RegionIndex, phase: Phase, index: u32) -> Option<Item>
         requires scripted { IsScripted self.now }
         requires there { IsThere (has_second self.now) region }
@@ -102,7 +102,7 @@ impl Player {
         self.item(region, phase, 0).is_some()
     }
 
-    /// The last phase of a region where it has calls.
+    /// The verify phase of a region, if it has calls.
     fn from_verify(&self, region: RegionIndex) -> Option<Phase>
         requires scripted { IsScripted self.now }
         requires there { IsThere (has_second self.now) region }
@@ -114,7 +114,7 @@ impl Player {
         None
     }
 
-    /// The second phase of a region where it has calls, or the last one.
+    /// The program phase of a region if it has calls, else the verify phase if that has.
     fn from_program(&self, region: RegionIndex) -> Option<Phase>
         requires scripted { IsScripted self.now }
         requires there { IsThere (has_second self.now) region }
@@ -151,7 +151,7 @@ impl Player {
         }
     }
 
-    /// What follows the first region where the board has two: the first phase of the second one that has calls, or the last reset.
+    /// The step after the first region: the first phase of a second region that has calls, else the last reset.
     fn second_region(&self) -> Step
         requires scripted { IsScripted self.now }
         requires there { IsTrue (has_second self.now) }
@@ -177,7 +177,7 @@ impl Player {
         }
     }
 
-    /// What follows a region.
+    /// The step after a region.
     fn behind(&self, region: RegionIndex) -> Step
         requires { IsScripted self.now }
         ensures step { IsStepBehind self.now region result }
@@ -189,7 +189,7 @@ impl Player {
         self.second_region()
     }
 
-    /// The first phase from this one on that has calls, or the last reset.
+    /// The first phase of a region from this one on that has calls, else what follows the region.
     fn begin(&self, region: RegionIndex, phase: Phase) -> Step
         requires scripted { IsScripted self.now }
         requires there { IsThere (has_second self.now) region }
@@ -202,7 +202,7 @@ impl Player {
         }
     }
 
-    /// What follows a phase.
+    /// The place after a phase.
     fn after(&self, region: RegionIndex, phase: Phase) -> Cursor
         ensures { result ≡ after (has_second self.now) region phase }
     {
@@ -228,7 +228,7 @@ impl Player {
         }
     }
 
-    /// The next call among those of a phase, or its UnInit.
+    /// The next call of a phase from item `index` on, or the phase's UnInit.
     fn call_step(&self, region: RegionIndex, phase: Phase, index: u32) -> Step
         requires scripted { IsScripted self.now }
         requires cursor { IsCursor (has_second self.now) self.now.moved (at.Calls region phase index) }
@@ -255,7 +255,7 @@ impl Player {
         }
     }
 
-    /// The next move of the script.
+    /// The next step of the script.
     fn step(&self, cursor: Cursor) -> Step
         requires scripted { IsScripted self.now }
         requires cursor { IsCursor (has_second self.now) self.now.moved cursor }
@@ -284,7 +284,7 @@ impl Player {
     }
 }
 
-/// Reads the bytes of a call to the buffer, and prepares the call. Gives the steps that it may make.
+/// Reads the bytes of a call into the buffer, and prepares the call. Returns the most steps that the call may make.
 fn prepare_with<B: Bench>(
     calls: &mut CallsIn,
     arena: &mut Arena,
@@ -340,7 +340,7 @@ fn prepare_from<B: Bench>(
     prepare_with(calls, arena, window, bench, job, goal, bytes, call, from)
 }
 
-/// How a session ends whose script ended so.
+/// The end of a session, by the end of its script.
 fn session_end(end: &TargetEnd) -> SessionEnd
     requires { IsPlayed (place.Ended end.now) }
     ensures { IsEndOf end.now result }
@@ -359,7 +359,7 @@ fn session_end(end: &TargetEnd) -> SessionEnd
 }
 
 impl Player {
-    /// Puts the other region's machine in the place of the one that moved last. It starts as after a reset; no bench is asked.
+    /// Replaces the machine that moved last by the other region's machine, which starts as after a reset. No bench is called.
     fn exchange(&mut self, arena: &mut Arena)
         requires { IsSomeAnd self.old.other (λ c. Fits c arena.old self.old.window) }
         ensures { IsSomeAnd self.old.other (IsExchanged self.old arena.old self.new arena.new) }
@@ -374,7 +374,7 @@ impl Player {
         }
     }
 
-    /// Puts the machine of a region in the place of the one that moved last, which was just reset.
+    /// Makes the machine of a region the one that moves. The one that moved last was just reset.
     fn turn_to(&mut self, arena: &mut Arena, region: RegionIndex)
         requires twins { AreTwins self.old }
         requires there { IsThere (has_second self.old) region }
@@ -386,7 +386,7 @@ impl Player {
         }
     }
 
-    /// Starts anew, as after a reset, before its first move. No bench is asked.
+    /// Restarts the player before its first move, as after a reset. No bench is called.
     pub(crate) fn restart(&mut self, arena: &mut Arena)
         requires twins { AreTwins self.old }
         requires fits { Fits self.old.calls arena.old self.old.window }
@@ -401,7 +401,7 @@ impl Player {
         });
     }
 
-    /// A reset with its load.
+    /// Makes the reset and the load of a phase.
     fn begin_phase<B: Bench>(
         &mut self,
         arena: &mut Arena,
@@ -428,7 +428,7 @@ impl Player {
         }
     }
 
-    /// The last reset.
+    /// Makes the last reset.
     fn last_reset<B: Bench>(&mut self, arena: &mut Arena, bench: &mut B, cursor: Cursor)
         requires fit { Fit B.tells self.old arena.old (B.state bench.old) }
         requires place { self.old.place ≡ place.At cursor }
@@ -444,7 +444,7 @@ impl Player {
         }
     }
 
-    /// The preparing of a call, with its bytes of the goal.
+    /// Prepares a call, with its bytes of the goal.
     fn prepare<B: Bench>(
         &mut self,
         job: &Job,
@@ -492,7 +492,7 @@ impl Player {
         }
     }
 
-    /// One host action of the script.
+    /// Makes one host action of the script.
     fn host<B: Bench>(&mut self, job: &Job, arena: &mut Arena, bench: &mut B, cursor: Cursor)
         requires fit { Fit B.tells self.old arena.old (B.state bench.old) }
         requires place { self.old.place ≡ place.At cursor }
@@ -516,7 +516,7 @@ impl Player {
         }
     }
 
-    /// What a call whose run has ended comes to.
+    /// Decides what follows a call whose run has ended.
     fn judge(&mut self, call: Call, len: u32, next: Cursor, end: RunEnd)
         requires { self.old.made + 1 < 2 ^ 32 }
         ensures { Judges self.old call len next end self.new }
@@ -544,7 +544,7 @@ impl Player {
         }
     }
 
-    /// The next steps of a call.
+    /// Makes the next steps of a call.
     fn go_on<B: Bench>(
         &mut self,
         arena: &mut Arena,
@@ -579,7 +579,7 @@ impl Player {
         }
     }
 
-    /// The comparison of the next cells, through these windows.
+    /// Compares the next cells with the goal, through these windows.
     fn compare_through<B: Bench>(
         &mut self,
         job: &Job,
@@ -627,7 +627,7 @@ impl Player {
         }
     }
 
-    /// The comparison of the next cells.
+    /// Compares the next cells with the goal.
     fn compare<B: Bench>(&mut self, job: &Job, arena: &mut Arena, bench: &mut B, at: u32)
         requires fit { Fit B.tells self.old arena.old (B.state bench.old) }
         requires place { self.old.place ≡ place.Comparing at }
@@ -641,7 +641,7 @@ impl Player {
         self.compare_through(job, arena, bench, at, &mut [0; WINDOW], &mut [0; WINDOW]);
     }
 
-    /// The close of the job.
+    /// Closes the job.
     fn close<B: Bench>(&mut self, arena: &mut Arena, bench: &mut B)
         requires fit { Fit B.tells self.old arena.old (B.state bench.old) }
         requires place { self.old.place ≡ place.Closing }
@@ -657,7 +657,7 @@ impl Player {
         }
     }
 
-    /// Whether the cells are the goal, and the job is not closed.
+    /// Whether the cells are the goal and the job is not yet closed.
     fn is_closing(&self) -> bool
         ensures { result ≡ at_close self.now.place }
     {
@@ -694,7 +694,7 @@ impl Player {
         }
     }
 
-    /// One turn of a target that has not ended: what `play` does, or the close. It takes no memory.
+    /// One turn of a target that has not ended: it does what `play` does, or closes the job. It takes no memory.
     pub fn turn<B: Bench>(&mut self, job: &Job, arena: &mut Arena, bench: &mut B, steps: u64)
         requires unended { IsUnended self.old.place }
         requires fit { Fit B.tells self.old arena.old (B.state bench.old) }
@@ -715,7 +715,7 @@ impl Player {
         }
     }
 
-    /// How a session ends that stops here: none where there is more to play. The close is still to come.
+    /// The end of a session that stops here; none while more is to be played. The close is still to come.
     fn stop(&self) -> Option<SessionEnd>
         requires { IsPlayed self.now.place }
         ensures { IsStop self.now.place result }
@@ -754,7 +754,7 @@ impl Player {
         }
     }
 
-    /// Whether it has ended.
+    /// Whether the target has ended.
     pub fn state(&self) -> Turn
         ensures { result ≡ turn_of self.now.place }
     {
@@ -765,7 +765,7 @@ impl Player {
         }
     }
 
-    /// How it has ended: none where it has not.
+    /// How the target has ended; none if it has not.
     pub fn end(&self) -> Option<&TargetEnd>
         ensures { IsEndAt self.now.place result }
     {

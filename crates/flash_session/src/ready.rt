@@ -1,11 +1,11 @@
-//! What a survey leaves.
+//! A survey that is ready to be carried out.
 ghost use Rattle.target_core.specs.Windows.{IsRam};
 
 use crate::player::Player;
 use crate::region_plan::RegionPlan;
 use ram_arena::Arena;
 
-/// The player of the plans that a survey made to a goal, in the first region and, where the board has two, in the second; and its RAM.
+/// The player of the plans that a survey made, for the first region and, if the board has two, for the second; and the player's RAM.
 #[derive(Drop)]
 pub(crate) struct Survey {
     pub player: Player,
@@ -23,7 +23,7 @@ impl Survey {
     ghost use Rattle.flash_session.specs.Surveys.{regions_of, survey_shown};
     ghost use Rattle.flash_session.specs.SurveyFacts.{IsSurvey};
 
-    /// What was found in a region.
+    /// The plan of a region.
     pub fn region(&self, region: usize) -> &RegionPlan
         requires { region < length (regions_of self.now) }
         ensures { (other : RegionPlan) → result.now ≡ get_or (regions_of self.now) region other }
@@ -37,7 +37,7 @@ impl Survey {
         }
     }
 
-    /// The player, which starts anew. Its RAM is given back.
+    /// Returns the player, restarted before its first move. The survey's RAM is freed.
     pub fn into_player(self) -> Player
         requires { AreTwins self.player }
         ensures { (j : Job) → IsSurvey j self → IsPlayerOf j (survey_shown self) result }

@@ -20,7 +20,7 @@ use job_text::Job;
 use std::alloc::Global;
 use target_core::Machine;
 
-/// The algorithms of a job: that of the first region and, where the board has two, that of the second.
+/// The algorithms of a job: the first region's and, if the board has two regions, the second one's.
 pub(crate) fn algorithms_of(job: &Job) -> (&Algorithm, Option<&Algorithm>)
     ensures { algorithms_shown job.now.algorithms ≡ algorithm_of result.0.now ∷ later_shown result.1 }
 {
@@ -30,7 +30,7 @@ pub(crate) fn algorithms_of(job: &Job) -> (&Algorithm, Option<&Algorithm>)
     }
 }
 
-/// A machine of a board, as after a reset, with an algorithm for which the board has room.
+/// A new machine of a board with an algorithm that has room in the board's RAM.
 fn calls_for(alloc: Global, board: &Board, algorithm: &Algorithm) -> Result<CallsIn, OutOfMemory>
     requires { IsTrue (has_room (algorithm_of algorithm.now) (board_of board.now)) }
     ensures setup { IfOk result (λ calls. setup_at calls ≡ setup_of (algorithm_of algorithm.now) (board_of board.now)) }
@@ -45,8 +45,8 @@ fn calls_for(alloc: Global, board: &Board, algorithm: &Algorithm) -> Result<Call
     Ok(CallsIn::new(machine, layout, algorithm, board))
 }
 
-/// The calls of the first region's algorithm and, where the board has two regions, of the second one's, each on a machine of the job's
-/// board, as after a reset.
+/// The calls of the first region's algorithm and, if the board has two regions, of the second one's. Each is on a new machine of the job's
+/// board.
 pub(crate) fn calls_of_job(
     alloc: Global,
     job: &Job,

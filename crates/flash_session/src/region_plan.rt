@@ -1,4 +1,4 @@
-//! What a player's script is made of.
+//! The plans that a player's script is made of.
 ghost use Rattle.std.specs.Prelude.{◌≡◌, ◌<◌, ◌^◌, IfSome};
 ghost use Rattle.flash_session.specs.Items.{IsSmall};
 
@@ -12,8 +12,7 @@ use flm_descriptor::Algorithm;
 use page_geometry::Geometry;
 use std::alloc::Global;
 
-/// The plan of a region: its sectors and pages, what to erase and to program of them, the address of its first byte, and the place of its
-/// first cell.
+/// The plan of a region: its sectors and pages, what to erase and program, the address of its first byte, and the place of its first cell.
 #[derive(Drop)]
 pub struct RegionPlan {
     pub geometry: Geometry,
@@ -22,12 +21,12 @@ pub struct RegionPlan {
     pub start: u32,
 }
 
-/// The work of a session: what to reach, and the plan of each region of the board.
+/// The work of a session: its goal, and the plan of each region of the board.
 #[derive(Drop)]
 pub struct SessionWork {
     pub goal: Goal,
     pub first: RegionPlan,
-    /// Where the board has two regions.
+    /// The plan of the second region, if the board has two.
     pub second: Option<RegionPlan>,
 }
 
@@ -35,12 +34,12 @@ impl SessionWork {
     ghost use Rattle.std.specs.Prelude.{◌≡◌, IfSome};
     ghost use Rattle.flash_session.specs.Targets.{region_in};
 
-    /// How many sectors and pages there are at most. It does nothing.
+    /// Has no effect. Its contract says the most sectors and pages that each region has.
     pub(crate) fn count(&self)
         ensures first { IsSmall self.now.first }
         ensures second { IfSome self.now.second IsSmall }
     {
-        // `limit` of these two calls
+        // the clause `limit` of these two calls is used
         let _sectors = self.first.geometry.sectors();
         let _pages = self.first.geometry.pages();
         count_second(&self.second);
@@ -57,12 +56,12 @@ impl SessionWork {
     }
 }
 
-/// How many sectors and pages a second region has at most, where there is one.
+/// Has no effect. Its contract says the most sectors and pages of a second region, if there is one.
 fn count_second(part: &Option<RegionPlan>)
     ensures { IfSome part.now IsSmall }
 {
     if let Some(part) = part {
-        // `limit` of these two calls
+        // the clause `limit` of these two calls is used
         let _sectors = part.geometry.sectors();
         let _pages = part.geometry.pages();
     }
@@ -87,12 +86,12 @@ impl RegionPlan {
     ghost use Rattle.flash_session.specs.Targets.{planned_in};
     ghost use Rattle.flash_session.specs.declared.phase.Phase.TheVariants as stage;
 
-    /// The plan of a region, whose first cell is at place `start`, by the algorithm for its device: it takes the memory of the plan.
+    /// A plan of a region, by the algorithm for the region's device; the first cell is at place `start`. It takes the memory of the plan.
     pub fn new(alloc: Global, algorithm: &Algorithm, start: u32) -> Result<RegionPlan, OutOfMemory>
         ensures part { IfOk result (IsRegionPlanFor (algorithm_of algorithm.now)) }
         ensures place { IfOk result (λ part. part.start ≡ start) }
     {
-        // `byte` of this call: what an erased cell holds is a byte
+        // the clause `byte` of this call is used: the value of an erased cell is a byte
         let _empty = empty_of(algorithm);
         let geometry = Geometry::of(alloc, algorithm)?;
         let mut plan = Plan::new(alloc);
@@ -105,7 +104,7 @@ impl RegionPlan {
         })
     }
 
-    /// The next sector of the plan, from this one on.
+    /// The next sector to erase, from this one on.
     fn find_sector(&self, index: u32) -> Option<u32>
         ensures { MatchOption result ((s : Setup) (goal : List ℕ) → sectors_on s self.now goal index ≡ [])
             (λ k. (k < length self.now.geometry.sectors) × (get_or self.now.plan.made.sectors k false ≡ true)
@@ -120,7 +119,7 @@ impl RegionPlan {
         None
     }
 
-    /// The next page of the plan, from this one on.
+    /// The next page to program or verify, from this one on.
     fn find_page(&self, index: u32) -> Option<u32>
         ensures { MatchOption result ((v : Bool) (s : Setup) (goal : List ℕ) → pages_on v s self.now goal index ≡ [])
             (λ k. (k < length self.now.geometry.pages) × (get_or self.now.plan.made.pages k false ≡ true)
@@ -135,12 +134,12 @@ impl RegionPlan {
         None
     }
 
-    /// The next erasure of a sector.
+    /// The next call that erases a sector.
     fn sector_item(&self, index: u32) -> Option<Item>
         requires { self.now.base + self.now.geometry.size ≤ 2 ^ 32 }
         ensures { (s : Setup) → IsItem s self.now (sectors_on s self.now) index result }
     {
-        // `lawful` and `limit` of this call: a sector ends within the region, and its number is below 2^32
+        // the clauses `lawful` and `limit` of this call are used: a sector ends within the region, and its number is below 2^32
         let _lawful = self.geometry.sectors();
         match self.find_sector(index) {
             None => None,
@@ -156,7 +155,7 @@ impl RegionPlan {
         }
     }
 
-    /// The next erasure, of the chip or of a sector.
+    /// The next call that erases, the chip or a sector.
     fn erase_item(&self, index: u32) -> Option<Item>
         requires { self.now.base + self.now.geometry.size ≤ 2 ^ 32 }
         ensures { (s : Setup) → IsRegionWork s (planned_in self.now) → IsItem s self.now (calls_on_phase stage.Erase s self.now) index result }
@@ -187,13 +186,13 @@ impl RegionPlan {
         }
     }
 
-    /// The next page to program or to verify.
+    /// The next call that programs or verifies a page.
     fn page_item(&self, verifies: bool, index: u32) -> Option<Item>
         requires { self.now.base + self.now.geometry.size ≤ 2 ^ 32 }
         ensures { (s : Setup) → IsRegionWork s (planned_in self.now) → (IsTrue verifies → IsTrue (is_some s.algorithm.entries.verify))
             → IsItem s self.now (pages_on verifies s self.now) index result }
     {
-        // `lawful` and `limit` of this call: a page ends within the region, and its number is below 2^32
+        // the clauses `lawful` and `limit` of this call are used: a page ends within the region, and its number is below 2^32
         let _lawful = self.geometry.pages();
         match self.find_page(index) {
             None => None,
@@ -209,7 +208,7 @@ impl RegionPlan {
         }
     }
 
-    /// The next call of a phase, by an algorithm that can verify or cannot.
+    /// The next call of a phase, from item `index` on. The algorithm may be unable to verify.
     pub(crate) fn item(&self, can_verify: bool, phase: Phase, index: u32) -> Option<Item>
         requires { self.now.base + self.now.geometry.size ≤ 2 ^ 32 }
         ensures { (s : Setup) → IsRegionWork s (planned_in self.now) → can_verify ≡ has_verify s

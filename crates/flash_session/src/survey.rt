@@ -36,8 +36,8 @@ fn zeros(alloc: Global, len: usize) -> Result<Vec<u8>, OutOfMemory>
     Ok(vec![in alloc; 0u8; len]?)
 }
 
-/// Surveys a region, whose first cell is at place `start`: takes the memory of its plan, reads its cells, and makes the plan from them
-/// to a goal.
+/// Surveys a region whose first cell is at place `start`: takes the memory of its plan, reads its cells, and makes the plan that leads to a
+/// goal.
 fn survey_part<B: Bench>(
     alloc: Global,
     bench: &mut B,
@@ -65,7 +65,7 @@ fn survey_part<B: Bench>(
     }
 }
 
-/// The bytes of a page of either region.
+/// The bytes of the longest page of the regions.
 fn longest_page(first: &Algorithm, second: Option<&Algorithm>) -> u32
     ensures { HasRoom (algorithm_of first.now ∷ later_shown second.entry) result }
 {
@@ -76,7 +76,7 @@ fn longest_page(first: &Algorithm, second: Option<&Algorithm>) -> u32
     }
 }
 
-/// Surveys the regions of a job: reads the cells, and makes the plans from them to a goal.
+/// Surveys the regions of a job: reads the cells, and makes the plans that lead to a goal.
 fn survey_work<B: Bench>(
     alloc: Global,
     bench: &mut B,
@@ -111,7 +111,7 @@ fn survey_work<B: Bench>(
     })
 }
 
-/// The player of the work on a job's regions, on new machines of the job's board, with its RAM and a buffer for a page.
+/// A player for a job's regions, on new machines of the job's board, with its RAM and a buffer for a page.
 fn player_for(alloc: Global, job: &Job, work: SessionWork) -> Result<Survey, OutOfMemory>
     ensures session { IfOk result (λ w. w.player.work ≡ work) }
     ensures work { IfOk result (λ w. AreRegionSurveys (algorithms_shown job.now.algorithms) 0 (work.first ∷ option_to_list work.second)

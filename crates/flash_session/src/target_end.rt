@@ -12,25 +12,25 @@ pub enum TargetEnd {
     Open(SessionFault),
     /// The cells were not surveyed.
     Survey(SurveyFault),
-    /// The first call that was not done, with its number from 1 on over the whole script, and its end, which is `Refused` or `Ended`.
+    /// The first call that was not done: its number, counted from 1 over the whole script, and its end, which is `Refused` or `Ended`.
     CallFailed {
         number: u32,
         call: Call,
         end: CallEnd,
     },
-    /// All calls were done, and a cell is not the goal: the first one.
+    /// All calls were done, but a cell differs from the goal: the first one that does.
     Mismatch(Difference),
-    /// The job file failed.
+    /// A call on the job file failed.
     StoreFault,
-    /// The device failed.
+    /// A call on the device failed.
     DeviceFault,
 }
 
 /// Whether a target has ended.
 #[derive(Clone, Copy)]
 pub enum Turn {
-    /// It goes on.
+    /// The target has more turns.
     More,
-    /// It has ended.
+    /// The target has ended.
     Ended,
 }

@@ -1,4 +1,4 @@
-//! The laws on turns.
+//! The laws on the turns of a target.
 ghost use Rattle.std.specs.Prelude.{◌≡◌, ℕ, List, []};
 ghost use Rattle.bench_model.specs.History.{Leaves};
 ghost use Rattle.bench_model.specs.State.{cells_half};
@@ -30,7 +30,7 @@ pub fn targets_begin<B: Bench>()
         → StandsOn (stand_at 0 (point_for x arena (B.state now).cells).world) [] goal x arena (B.state now) }
 {}
 
-/// A target that goes on stands at a point of its own script's path, whatever the resets that are still to come leave.
+/// A target that has not ended is at a point of its own script's path, whatever cells the resets still to come leave.
 pub fn targets_stand_on_their_path<B: Bench>()
     ensures { (x : Player) (goal : List ℕ) (arena : List (List ℕ)) (a : Stand) (way : List Move) (now : B) → IsUnended x.place
         → StandsOn a way goal x arena (B.state now)

@@ -1,4 +1,4 @@
-//! What a target reads of its job file and of its device.
+//! The reads of a target from its job file and its device.
 ghost use Rattle.std.specs.Prelude.{◌≡◌, ◌<◌, ◌≤◌, ◌+◌, length, take, drop, IsTrue, OnOk, IfOk, None};
 ghost use Rattle.bench_model.specs.Calls.{OnlyReads, IsRead};
 ghost use Rattle.board_file.specs.Limits.{size_of};
@@ -14,14 +14,14 @@ use bench_model::{Bench, DeviceFault, StoreFault};
 use job_text::Job;
 use readback::{Difference, first_difference};
 
-/// Why cells, or the bytes that are wanted of them, were not read.
+/// Why cells, or the bytes wanted of them, were not read.
 #[derive(Clone, Copy)]
 pub(crate) enum Unread {
     Device,
     Store,
 }
 
-/// Fills the buffer with the goal of a job from place `at` on. An empty one asks the bench nothing.
+/// Fills the buffer with the goal of a job from place `at` on. For an empty buffer no bench is called.
 pub(crate) fn read_bytes<B: Bench>(
     bench: &mut B,
     job: &Job,
@@ -42,7 +42,7 @@ pub(crate) fn read_bytes<B: Bench>(
     want_into(bench, job, goal, at, bytes)
 }
 
-/// Compares as many cells as the windows hold with the goal, from place `at` on: none where they are equal, else the first that differs.
+/// Compares as many cells as the windows hold with the goal, from place `at` on. Returns the first cell that differs, or none.
 pub(crate) fn compare_window<B: Bench>(
     bench: &mut B,
     job: &Job,

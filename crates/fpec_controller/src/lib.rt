@@ -1,8 +1,8 @@
-//! The flash controller FPEC, in the manner of the unit of that name in the STM32F0 and STM32F1 families: two keys unlock CR, whose
-//! bits program halfwords, erase a sector or erase all, and operations take a number of ticks.
+//! The flash controller FPEC, similar to the unit of that name in the STM32F0 and STM32F1 families. Two keys unlock CR, whose bits program
+//! halfwords, erase a sector or erase all. Operations take a number of ticks.
 //!
-//! It is a controller of this project's own. Its table is its whole behaviour, and nothing is claimed of what those parts do.
-//! Its driver stands between the core's loads and stores and the bench.
+//! This controller is the project's own. Its table is its whole behaviour, and nothing is claimed about those parts. Its driver stands
+//! between the core's loads and stores and the bench.
 #![tactic(auto)]
 
 mod registers;

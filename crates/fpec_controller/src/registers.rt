@@ -1,4 +1,4 @@
-//! What the registers answer and become.
+//! What the registers answer, and what stores do to them.
 ghost use Rattle.std.specs.Prelude.{◌≡◌, None};
 ghost use Rattle.flash_layout.specs.Areas.{cells_in};
 ghost use Rattle.flash_layout.specs.Maps.{map_of};
@@ -16,26 +16,26 @@ const BLOCK: u32 = 64;
 /// The offset of SR.
 const STATUS: u32 = 0x0C;
 
-/// WRPR: no sector is protected.
+/// The value of WRPR: no sector is protected.
 const UNPROTECTED: u32 = 0xFFFF_FFFF;
 
 /// The bit of CR that starts an erasure.
 const START: u32 = 0x40;
 
-/// The bit of CR that locks it.
+/// The bit of CR that locks the controller.
 const LOCK: u32 = 0x80;
 
 /// The bytes of a halfword.
 const HALF: u32 = 2;
 
-/// An erased byte.
+/// The value of an erased byte.
 const ERASED: u8 = 0xFF;
 
 /// The controller FPEC of a board.
 pub type Fpec = Driver<State>;
 
 impl State {
-    /// A store to CR.
+    /// Makes a store to CR.
     #[tactic(auto, unfolding(crate::specs::Table::control_stored))]
     fn store_control(
         &mut self,

@@ -1,28 +1,28 @@
-//! The registers.
+//! The registers of FPEC.
 ghost use Rattle.std.specs.Prelude.{◌≡◌, ◌<◌};
 ghost use Rattle.fpec_controller.specs.Table.{is_erasure, status, control, access_control_stored, key_stored, status_stored, address_stored};
 ghost use Rattle.fpec_controller.specs.Table.{with_bits, after_reset, has_bit, may_program};
 
 use flash_layout::{Lock, Operation, Work, flag_value};
 
-/// What the registers hold.
+/// The contents of the registers.
 #[derive(Clone, Copy)]
 pub struct State {
-    /// How far it is unlocked.
+    /// How far the controller is unlocked.
     pub lock: Lock,
     /// PG: stores to the flash program halfwords.
     pub programs: bool,
-    /// PER: an erasure is that of a sector.
+    /// PER: an erasure erases a sector.
     pub erases_sector: bool,
-    /// MER: an erasure is that of all cells.
+    /// MER: an erasure erases all cells.
     pub erases_all: bool,
-    /// PGERR: a halfword was to be programmed that isn't erased.
+    /// PGERR: a halfword that isn't erased was to be programmed.
     pub program_error: bool,
     /// EOP: an operation has ended.
     pub ended: bool,
-    /// ACR.
+    /// The register ACR.
     pub access_control: u32,
-    /// AR.
+    /// The register AR.
     pub address: u32,
 }
 
@@ -61,7 +61,7 @@ impl State {
         }
     }
 
-    /// SR, while this operation runs.
+    /// The value of SR, while this operation runs.
     #[inline(always)]
     pub fn status(&self, operation: Option<Operation>) -> u32
         ensures { result ≡ status self.now operation }
@@ -71,7 +71,7 @@ impl State {
             + flag_value(self.ended, 32)
     }
 
-    /// CR, while this operation runs.
+    /// The value of CR, while this operation runs.
     #[inline(always)]
     pub fn control(&self, operation: Option<Operation>) -> u32
         ensures { result ≡ control self.now operation }
@@ -90,21 +90,21 @@ impl State {
         self.lock.is_unlocked() && self.programs
     }
 
-    /// A store to ACR.
+    /// Makes a store to ACR.
     pub fn store_access_control(&mut self, value: u32)
         ensures { self.new ≡ access_control_stored self.old value }
     {
         self.access_control = value;
     }
 
-    /// A store to KEYR.
+    /// Makes a store to KEYR.
     pub fn store_key(&mut self, value: u32)
         ensures { self.new ≡ key_stored self.old value }
     {
         self.lock = self.lock.after_key(value);
     }
 
-    /// A store to SR: the flags whose bits are set in the value are cleared.
+    /// Makes a store to SR: the flags whose bits are set in the value are cleared.
     pub fn store_status(&mut self, value: u32)
         ensures { self.new ≡ status_stored self.old value }
     {
@@ -112,7 +112,7 @@ impl State {
         self.ended = self.ended && (value / 32) % 2 == 0;
     }
 
-    /// A store to AR.
+    /// Makes a store to AR.
     pub fn store_address(&mut self, operation: Option<Operation>, value: u32)
         ensures { self.new ≡ address_stored self.old operation value }
     {
@@ -121,7 +121,7 @@ impl State {
         }
     }
 
-    /// Takes PG, PER and MER of a value.
+    /// Takes the bits PG, PER and MER of a value.
     pub fn take_bits(&mut self, value: u32)
         ensures { self.new ≡ with_bits self.old value }
     {

@@ -10,10 +10,10 @@ use flm_descriptor::{Algorithm, Run, SectorItem};
 use std::alloc::Global;
 use std::marker::Model;
 
-/// The sectors and pages of a device (Open-CMSIS-Pack, `FlashOS.h`, `struct FlashSectors` and szPage). From the offset of an
-/// item, sectors have its size until the next item's offset or the end of the device; each sector is cut from its start into
-/// pages of szPage bytes; the last sector of an item and the last page of a sector may be shorter. Places, lengths and sizes are
-/// in bytes, places from the device's first byte on; sectors and pages are numbered from 0 on, in rising order.
+/// The sectors and pages of a device (Open-CMSIS-Pack, `FlashOS.h`, `struct FlashSectors` and szPage). From the offset of an item, sectors
+/// have its size until the next item's offset or the end of the device. Each sector is cut from its start into pages of szPage bytes. The
+/// last sector of an item and the last page of a sector may be shorter. Places, lengths and sizes are in bytes, places counted from the
+/// device's first byte. Sectors and pages are numbered from 0 on, in rising order.
 #[derive(Drop)]
 pub struct Geometry {
     size: u32,
@@ -52,7 +52,7 @@ impl Geometry {
         )
     }
 
-    /// The bytes of the device.
+    /// The size of the device in bytes.
     pub fn size(&self) -> u32
         ensures size { result ≡ self.now.size }
         ensures limit { result ≤ 16777216 }
@@ -96,7 +96,7 @@ impl Geometry {
         page_range(self.page, &self.runs, &self.first_pages, index)
     }
 
-    /// The sector that a place lies in; none where the place lies outside the device.
+    /// The sector of a place; none if the place lies outside the device.
     pub fn sector_at(&self, place: u32) -> Option<u32>
         ensures { MatchOption result (self.now.size ≤ place) (λ s. (s < length self.now.sectors) × In place (range_at self.now.sectors s)) }
     {
@@ -112,7 +112,7 @@ impl Geometry {
         ))
     }
 
-    /// The page that a place lies in; none where the place lies outside the device.
+    /// The page of a place; none if the place lies outside the device.
     pub fn page_at(&self, place: u32) -> Option<u32>
         ensures { MatchOption result (self.now.size ≤ place) (λ p. (p < length self.now.pages) × In place (range_at self.now.pages p)) }
     {

@@ -1,5 +1,5 @@
-//! The sectors and pages of a flash device, as tables in which each is looked up by its number or by a place; and as definitions
-//! what a flash algorithm is to do to the device's cells.
+//! The sectors and pages of a flash device, in tables that look each up by its number or by a place. Definitions in `specs/Ideal` say what
+//! a flash algorithm is to do to the device's cells.
 #![tactic(auto)]
 
 mod geometry;

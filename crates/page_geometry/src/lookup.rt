@@ -1,4 +1,4 @@
-//! Look-ups in the tables of a geometry: one search over the runs, and divisions. Nothing walks over sectors or pages.
+//! Look-ups in the tables of a geometry: one search over the runs, and divisions. Nothing loops over sectors or pages.
 ghost use Rattle.std.specs.Prelude.{◌≡◌, ℕ, ◌+◌, ◌*◌, ◌<◌, ◌≤◌, length, slice_index};
 ghost use Rattle.flm_descriptor.specs.Shape.{pieces, piece, sectors_of, pages_of, range_at, run_at, sectors_before, pages_before};
 ghost use Rattle.page_geometry.specs.Geometry.{In, IsGeometry, IsAt, ArePagesOf};
@@ -7,7 +7,7 @@ ghost use Rattle.page_geometry.specs.Table.{AreRuns, AreFirstSectors, AreFirstPa
 use crate::pieces::{count_pieces, piece_at};
 use flm_descriptor::Run;
 
-/// The last index of the rising list whose number is at most `number`.
+/// The last index of a rising list with a number that is at most `number`.
 pub fn last_at_most(numbers: &[u32], number: u32) -> usize
     requires rising { (i j : ℕ) → i ≤ j → j < length numbers.now → slice_index numbers.now i ≤ slice_index numbers.now j }
     requires some { 1 ≤ length numbers.now }
@@ -29,7 +29,7 @@ pub fn last_at_most(numbers: &[u32], number: u32) -> usize
     low
 }
 
-/// The run that a sector lies in, and the sector's number there.
+/// The run of a sector, and the sector's number in the run.
 pub fn find_sector(runs: &[Run], firsts: &[u32], index: u32) -> (usize, u32)
     requires table { AreFirstSectors runs.now firsts.now }
     requires index { index < length (sectors_of runs.now) }
@@ -41,7 +41,7 @@ pub fn find_sector(runs: &[Run], firsts: &[u32], index: u32) -> (usize, u32)
     (at, index - firsts[at])
 }
 
-/// The run that a page lies in, the number of its sector there, and the page's number in that sector.
+/// The run of a page, the number of its sector in the run, and the page's number in that sector.
 pub fn find_page(page: u32, runs: &[Run], firsts: &[u32], index: u32) -> (usize, u32, u32)
     requires table { AreFirstPages page runs.now firsts.now }
     requires index { index < length (pages_of page (sectors_of runs.now)) }
@@ -57,7 +57,7 @@ pub fn find_page(page: u32, runs: &[Run], firsts: &[u32], index: u32) -> (usize,
     (at, left / each, left % each)
 }
 
-/// The run that a place lies in, and the number of its sector there.
+/// The run of a place, and the number of its sector in the run.
 pub fn find_place(size: u32, runs: &[Run], starts: &[u32], place: u32) -> (usize, u32)
     requires table { AreRuns size runs.now starts.now }
     requires place { place < size }
@@ -92,7 +92,7 @@ pub fn page_range(page: u32, runs: &[Run], firsts: &[u32], index: u32) -> (u32, 
     (place, stop - place)
 }
 
-/// The sector that a place lies in.
+/// The sector of a place.
 pub fn sector_number(size: u32, runs: &[Run], starts: &[u32], firsts: &[u32], place: u32) -> u32
     requires runs { AreRuns size runs.now starts.now }
     requires table { AreFirstSectors runs.now firsts.now }
@@ -105,7 +105,7 @@ pub fn sector_number(size: u32, runs: &[Run], starts: &[u32], firsts: &[u32], pl
     firsts[at] + sector
 }
 
-/// The page that a place lies in.
+/// The page of a place.
 pub fn page_number(
     size: u32,
     page: u32,

@@ -4,7 +4,7 @@ ghost use Rattle.flm_descriptor.specs.Shape.{pieces, piece, item_end, cut, pages
 
 use flm_descriptor::{Run, SectorItem};
 
-/// How many pieces of `step` bytes begin from `start` on and before `stop`.
+/// How many pieces of `step` bytes begin at `start` or later, and before `stop`.
 pub fn count_pieces(step: u32, start: u32, stop: u32) -> u32
     requires { 1 ≤ step }
     ensures { result ≡ pieces step start stop }

@@ -9,7 +9,7 @@ use faults::OutOfMemory;
 use std::alloc::Global;
 use std::marker::Model;
 
-/// Windows of bytes, in one allocation that is freed with the arena. A contract sees the list of the windows, each the list of its bytes.
+/// Windows of bytes in one allocation, which is freed with the arena. A contract sees a list of windows, each a list of its bytes.
 #[derive(Drop)]
 pub struct Arena {
     bytes: Bytes,
@@ -27,7 +27,7 @@ impl Model for Arena {
     ghost invariant = { λ a. (total (sizes_of a.windows.items) ≡ length a.bytes) × LieFrom 0 a.windows.items × (length a.bytes ≤ 2 ^ 30) };
 }
 
-/// The least multiple of 8 that is not less.
+/// The least multiple of 8 that is at least `size`.
 fn round_up(size: u32) -> usize
     ensures { result ≡ round_up size }
 {
@@ -35,7 +35,8 @@ fn round_up(size: u32) -> usize
 }
 
 impl Arena {
-    /// Windows of these sizes, of zero bytes. There are at most 64, and their sizes, each rounded up to a multiple of 8, sum to at most 2^30.
+    /// Windows of these sizes, with zero bytes. There are at most 64, and their sizes, each rounded up to a multiple of 8, sum to at most
+    /// 2^30.
     pub fn new(alloc: Global, sizes: &[u32]) -> Result<Arena, OutOfMemory>
         requires windows { length sizes.now ≤ 64 }
         requires bytes { total sizes.now ≤ 2 ^ 30 }
@@ -138,7 +139,7 @@ impl Arena {
         self.bytes.load8(from + offset)
     }
 
-    /// The two bytes from a place of a window that begins there on, little-endian.
+    /// The two bytes from a place of a window on, little-endian. The window begins at `from`.
     pub fn load16_from(&self, from: usize, window: usize, offset: usize) -> u32
         requires from { from ≡ begin_of self.now window }
         requires window { window < length self.now }
@@ -149,7 +150,7 @@ impl Arena {
         self.bytes.load16(from + offset)
     }
 
-    /// The four bytes from a place of a window that begins there on, little-endian.
+    /// The four bytes from a place of a window on, little-endian. The window begins at `from`.
     pub fn load32_from(&self, from: usize, window: usize, offset: usize) -> u32
         requires from { from ≡ begin_of self.now window }
         requires window { window < length self.now }
@@ -171,7 +172,7 @@ impl Arena {
         self.bytes.store8(from + offset, value);
     }
 
-    /// Stores two bytes from a place of a window that begins there on, little-endian.
+    /// Stores two bytes from a place of a window on, little-endian. The window begins at `from`.
     pub fn store16_from(&mut self, from: usize, window: usize, offset: usize, value: u32)
         requires from { from ≡ begin_of self.old window }
         requires window { window < length self.old }
@@ -183,7 +184,7 @@ impl Arena {
         self.bytes.store16(from + offset, value);
     }
 
-    /// Stores four bytes from a place of a window that begins there on, little-endian.
+    /// Stores four bytes from a place of a window on, little-endian. The window begins at `from`.
     pub fn store32_from(&mut self, from: usize, window: usize, offset: usize, value: u32)
         requires from { from ≡ begin_of self.old window }
         requires window { window < length self.old }
@@ -194,7 +195,7 @@ impl Arena {
         self.bytes.store32(from + offset, value);
     }
 
-    /// Makes each byte of a window this one.
+    /// Sets each byte of a window to this value.
     pub fn fill(&mut self, window: usize, value: u8)
         requires { window < length self.old }
         ensures { self.new ≡ slice_set self.old window (replicate (length (slice_index_or self.old window [])) value) }
@@ -211,7 +212,7 @@ impl Arena {
         requires range { offset + length bytes.now ≤ length (slice_index_or self.old window []) }
         ensures { self.new ≡ slice_set self.old window (laid offset bytes.now (slice_index_or self.old window [])) }
     {
-        // a window is so short that its places are numbers of 32 bits
+        // a window is short enough that its places are numbers of 32 bits
         let _size = self.windows[window].size;
         for i in 0..bytes.len() {
             self.store8(window, offset + i as u32, u32::from(bytes[i]));

@@ -1,4 +1,4 @@
-//! The laws on runs: each has one end, and slices of it, however cut, end as it does. And the law on the block of registers.
+//! The laws on runs: each run has one end, and slices of it, however it is cut, end as it does. Also the law on the block of registers.
 ghost use Rattle.std.specs.Prelude.{◌≡◌, ◌≤◌, ◌+◌, ◌*◌, ℕ, false, length, List, Some};
 ghost use Rattle.bench_model.specs.State.{SameOutside};
 ghost use Rattle.board_file.specs.Kinds.{block_of};
@@ -13,8 +13,8 @@ ghost use Rattle.target_core.specs.Targets.{SliceFrom, Sliced};
 
 use bench_model::Bench;
 
-/// A run has one end, after at most as many steps as there is fuel for. Its end and its last point are computed from its first
-/// point, its return point and its fuel: two runs that have these in common end alike, unless a device failed.
+/// A run has one end, after at most as many steps as it has fuel. Its end and its last point are computed from its first point, its return
+/// point and its fuel. So two runs with the same of these end alike, unless a device failed.
 pub fn runs_have_one_end<B: Bench>()
     ensures one { (return_at fuel : ℕ) (first : Point) → HasOneEnd return_at fuel first }
     ensures within { (return_at fuel : ℕ) (first : Point) → run_last return_at fuel first ≤ 2 * fuel + 1 }
@@ -23,9 +23,9 @@ pub fn runs_have_one_end<B: Bench>()
         → is_device_end e ≡ false → is_device_end f ≡ false → (e ≡ f) × (last ≡ other) }
 {}
 
-/// A run goes on from each of its whole steps as itself. So do slices of it: the slice that ends is the run with the fuel that was
-/// left to it, and a slice before a run is one run. By these two, slices, however cut, end as the run, at its last point, and a stop of
-/// the power within them leaves what one at a point of its path leaves.
+/// From each of its whole steps a run continues as before, and so do its slices. The slice that ends is the run with the fuel left to it,
+/// and a slice before a run is one run. So slices, however they are cut, end as the run does, at its last point. A stop of the power within
+/// them leaves what a stop at a point of the run's path leaves.
 pub fn slices_are_one_run<B: Bench>()
     ensures on { (return_at fuel : ℕ) (first : Point) (made : ℕ) → made ≤ fuel → GoesTo return_at fuel first made → GoesOnAs return_at fuel first made }
     ensures last { (return_at : ℕ) (first last : Point) (start end : B) (fuel left steps : ℕ) (e : RunEnd)
@@ -39,14 +39,14 @@ pub fn slices_are_one_run<B: Bench>()
         → Sliced B.state return_at cuts first start fuel e last end → RunGives return_at fuel first (B.state start) e last (B.state end) }
 {}
 
-/// While the operations of a path lie in a range of the cells, all other cells stay: a stop of the power at any of its points leaves them
-/// as they were at the first.
+/// While the operations of a path lie in a range of the cells, all other cells stay: a stop of the power at any point of the path leaves
+/// them as they were at its first point.
 pub fn paths_stay_in_a_range()
     ensures { (first : Point) (last : ℕ) (range : ℕ × ℕ) → range.0 + range.1 ≤ length first.world.cells → LieIn range first last
         → (c : List ℕ) → IsLeftOnPath first last c → SameOutside (Some range) first.world.cells c }
 {}
 
-/// The block that a board keeps free for the registers of its controller is that of their table.
+/// The block that a board keeps free for its controller's registers has the size that the controller's table says.
 pub fn blocks_are_of_one_size()
     ensures { (kind : ControllerKind) → any_table.block kind ≡ block_of kind }
 {}

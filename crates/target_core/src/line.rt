@@ -9,11 +9,11 @@ use armv6m_step::Bus;
 use bench_model::{Bench, BusEnd};
 use ram_arena::Arena;
 
-/// The bus of the target, for as long as a slice runs. The RAM is a window of an arena. The bench has the controller's cells, and its open
-/// operation is the controller's. So that a step costs little, it keeps where the window begins, how much of the RAM lies below the end of all
-/// addresses, where the controller's block begins, how many bytes of it are apart from the RAM (none, where it meets the RAM), and whether an
-/// operation runs. `code` and `code_halves` are the base of the RAM and its halfwords once more, for the fetch alone: so the compiler takes them from
-/// memory there, and holds none of them in a register for the access that may follow.
+/// The bus of the target during a slice. The RAM is a window of an arena. The bench has the controller's cells, and its open operation is
+/// the controller's. Some numbers are kept to make a step cheap. The window begins at `from`; `reach` bytes of the RAM lie below the end of
+/// all addresses. The controller's block begins at `block`; `apart` bytes of it lie apart from the RAM, or none if it meets the RAM. `runs`
+/// says whether an operation runs. `code` and `code_halves` repeat the RAM's base and its number of halfwords for instruction fetches. So
+/// the compiler reads them from memory there, and no register has to hold them for the access that may follow.
 #[derive(Drop)]
 pub(crate) struct Line<'a, B: Bench> {
     pub ram_base: u32,
@@ -51,7 +51,7 @@ impl<'a, B: Bench> Line<'a, B> {
     ghost use Rattle.armv6m_step.specs.Access.{Load};
     ghost use Rattle.target_core.specs.Line.{line_acts};
 
-    /// The word of a register that programs read while they wait, which answers without the bench.
+    /// The value of a register that programs read while they wait. It is answered without the bench.
     #[inline(always)]
     fn peek_register(&self, at: u32) -> Option<u32>
         ensures even { IfSome result (λ v. at % 4 ≡ 0) }

@@ -25,12 +25,12 @@ use faults::OutOfMemory;
 use ram_arena::Arena;
 use std::alloc::Global;
 
-/// How a run begins.
+/// The state in which a run begins.
 #[derive(Clone, Copy)]
 pub struct Frame {
     /// All registers: R0 to R12, SP, LR and PC.
     pub regs: [u32; 16],
-    /// Where the run returns to.
+    /// The return point of the run.
     pub return_at: u32,
 }
 
@@ -45,7 +45,7 @@ pub struct Machine {
     pub ram_size: u32,
     /// The controller.
     pub unit: Unit,
-    /// Where the run returns to that was started last.
+    /// The return point of the run that was started last.
     pub return_at: u32,
 }
 
@@ -71,7 +71,7 @@ fn fresh_core() -> Core
 }
 
 impl Machine {
-    /// The machine of a board, as after a reset.
+    /// The machine of a board, after a reset.
     pub fn new(alloc: Global, board: &Board) -> Result<Machine, OutOfMemory>
         ensures base { IfOk result (λ machine. machine.ram_base ≡ board.now.ram_base) }
         ensures size { IfOk result (λ machine. machine.ram_size ≡ board.now.ram_size) }
@@ -90,7 +90,7 @@ impl Machine {
         })
     }
 
-    /// Sets all registers, clears the flags and PRIMASK, and keeps the return point for the slices to come. The RAM stays.
+    /// Sets all registers, clears the flags and PRIMASK, and keeps the return point for the slices that follow. The RAM stays.
     pub fn start(&mut self, arena: &mut Arena, window: usize, frame: &Frame)
         requires { IsRam arena.old window self.old.ram_size }
         ensures starts { with_ram self.new (window_of arena.old window) ≡ after_start (over self.old arena.old window) frame.now }
@@ -108,8 +108,8 @@ impl Machine {
         self.return_at = frame.return_at;
     }
 
-    /// Breaks off an operation that is open on the bench, resets the controller and the core, and zeroes the RAM. After a device
-    /// fault all is as it was. No other window changes.
+    /// Breaks off an operation that is open on the bench, resets the controller and the core, and zeroes the RAM. A device fault leaves
+    /// everything as it was. No other window changes.
     pub fn reset<B: Bench>(
         &mut self,
         arena: &mut Arena,
@@ -144,7 +144,7 @@ impl Machine {
         }
     }
 
-    /// Starts anew, as after a reset, and asks no bench: an operation that is open on one goes on there. No other window changes.
+    /// Restarts as after a reset, without calling a bench: an operation that is open on one stays open. No other window changes.
     pub fn restart(&mut self, arena: &mut Arena, window: usize)
         requires { IsRam arena.old window self.old.ram_size }
         ensures unit { unit_state self.new.unit ≡ state_reset (unit_map self.old.unit) }
@@ -198,8 +198,8 @@ impl Machine {
         }
     }
 
-    /// Goes on from the last start or slice, by at most `steps` steps. `left` is the fuel, and falls by the steps that went. No other
-    /// window changes.
+    /// Continues from the last start or slice by at most `steps` steps. `left` is the fuel, and falls by the steps made. No other window
+    /// changes.
     #[inline(always)]
     pub fn run_slice<B: Bench>(
         &mut self,
@@ -253,7 +253,7 @@ impl Machine {
         sliced.end
     }
 
-    /// Starts with a frame and runs on until an end holds, by at most `fuel` steps. No other window changes.
+    /// Starts with a frame and runs until an end holds, for at most `fuel` steps. No other window changes.
     #[inline(always)]
     pub fn run<B: Bench>(
         &mut self,

@@ -36,7 +36,7 @@ impl Target {
     ghost use Rattle.target_core.specs.Targets.{fresh_core, stands, after_start, point_in, SliceGives, GoesOn};
     ghost use Rattle.target_core.specs.Units.{fresh, UnitAgrees, unit_cells, unit_map, unit_state, state_reset};
 
-    /// The target of a board, as after a reset.
+    /// The target of a board, after a reset.
     pub fn new(alloc: Global, board: &Board) -> Result<Target, OutOfMemory>
         ensures ram { IfOk result (λ target. (stands target).ram ≡ replicate board.now.ram_size 0) }
         ensures base { IfOk result (λ target. (stands target).ram_base ≡ board.now.ram_base) }
@@ -50,15 +50,15 @@ impl Target {
         Ok(Target { machine, arena })
     }
 
-    /// Sets all registers, clears the flags and PRIMASK, and keeps the return point for the slices to come.
+    /// Sets all registers, clears the flags and PRIMASK, and keeps the return point for the slices that follow.
     pub fn start(&mut self, frame: &Frame)
         ensures { stands self.new ≡ after_start (stands self.old) frame.now }
     {
         self.machine.start(&mut self.arena, 0, frame);
     }
 
-    /// Breaks off an operation that is open on the bench, resets the controller and the core, and zeroes the RAM. After a device
-    /// fault all is as it was.
+    /// Breaks off an operation that is open on the bench, resets the controller and the core, and zeroes the RAM. A device fault leaves
+    /// everything as it was.
     pub fn reset<B: Bench>(&mut self, bench: &mut B) -> Result<(), DeviceFault>
         requires { (B.state bench.old).cell_count ≡ unit_cells (stands self.old).unit }
         ensures unit { OnOk result (unit_state (stands self.new).unit ≡ state_reset (unit_map (stands self.old).unit)) }
@@ -78,7 +78,7 @@ impl Target {
         self.machine.reset(&mut self.arena, 0, bench)
     }
 
-    /// Starts anew, as after a reset, and asks no bench: an operation that is open on one goes on there.
+    /// Restarts as after a reset, without calling a bench: an operation that is open on one stays open.
     pub fn restart(&mut self)
         ensures unit { unit_state (stands self.new).unit ≡ state_reset (unit_map (stands self.old).unit) }
         ensures ram { (stands self.new).ram ≡ replicate (length (stands self.old).ram) 0 }
@@ -119,7 +119,7 @@ impl Target {
         self.machine.read_ram(&self.arena, 0, at, out);
     }
 
-    /// Goes on from the last start or slice, by at most `steps` steps. `left` is the fuel, and falls by the steps that went.
+    /// Continues from the last start or slice by at most `steps` steps. `left` is the fuel, and falls by the steps made.
     pub fn run_slice<B: Bench>(&mut self, bench: &mut B, left: &mut u64, steps: u64) -> SliceEnd
         requires { UnitAgrees B.tells (stands self.old).unit (B.state bench.old) }
         ensures run { IsTrue B.tells → SliceGives (stands self.old) (B.state bench.old) left.old left.new steps result (stands self.new) (B.state bench.new) }
@@ -138,7 +138,7 @@ impl Target {
             .run_slice(&mut self.arena, 0, bench, left, steps)
     }
 
-    /// Starts with a frame and runs on until an end holds, by at most `fuel` steps.
+    /// Starts with a frame and runs until an end holds, for at most `fuel` steps.
     pub fn run<B: Bench>(&mut self, bench: &mut B, frame: &Frame, fuel: u64) -> RunEnd
         requires { UnitAgrees B.tells (stands self.old).unit (B.state bench.old) }
         ensures run { IsTrue B.tells → RunGives frame.now.return_at fuel (point_in (after_start (stands self.old) frame.now) (B.state bench.old).cells)
