@@ -38,7 +38,7 @@ in_run run a byte is =
             is = sym (byte_is ∙ ap (λ (n : ℕ). byte_of (run_at (run ∷ []) n) a) zero);
           }
 
--- The part of a run that lies in a region, from one of its offsets to another.
+-- The part of a run in a region, from one offset of the run to another.
 
 module _ (tells : Bool) (cells : List ℕ) (start base size at : ℕ) (bytes : List ℕ) (low high : ℕ) (part : List ℕ)
     (part_is : part ≡ take (high - low) (drop low bytes)) (many : length part ≡ high - low) (order : low < high) (within : high ≤ length bytes)

@@ -180,7 +180,7 @@ module _ (tells sinks : Bool) (told : IsTrue tells) (j : code.Job) (goal : Goal)
   job_stays : IsWhole (body w) m.file
   job_stays = stay.file told ∙ stands.whole
 
-  -- each stop of the script leaves what lies outside the chosen plans
+  -- each stop of the script leaves the cells outside the chosen plans as surveyed
   local_from : (q : Option Surveyed) → IsSomeAnd q (λ v. HasSurveyed tells j goal s.file s.cells v)
       → IfSome q (λ v. IsAsSurveyed tells j s v → Leaves (cells_half s) (cells_half m) (SameBut (IsInPlans 0 v.regions) s.cells))
       → Leaves (cells_half s) (cells_half m) (IsOutsidePlanAsSurveyed w)

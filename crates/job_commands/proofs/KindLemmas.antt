@@ -83,7 +83,7 @@ begun_kind done kind = tt
 begun_kind (refused out_of_memory) kind = refl
 begun_kind (refused r) kind = cc
 
--- a refusal of the beginning is one of a step that begins a job and prints so
+-- a refusal of the beginning is one of a step that begins a job and prints that it did
 pub start_alone : (r : Refusal) → IsOf has_start (refused r) → IsOf has_alone (refused r)
 start_alone output_fault kind = refl
 start_alone r kind = kind

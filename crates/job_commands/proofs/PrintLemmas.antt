@@ -178,7 +178,7 @@ module _ (sinks tells : Bool) (j : code.Job) (goal : Goal) (file cells : List �
 
 -- ---- how the plans are put
 
--- the plan of a region, whose algorithm is given
+-- the plan of a region with this algorithm
 plan_at : (algorithms : List Algorithm) (plans : List Planned) (region : ℕ) (a : Algorithm) (other : Planned) → ArePlansFor (algorithms_shown algorithms) plans
     → region < length algorithms → a ≡ get_or algorithms region a → IsPlanFor (flm.shown a) (get_or plans region other)
 plan_at [] plans region a other are less is = absurd (omega (arith, less))

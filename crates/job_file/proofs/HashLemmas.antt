@@ -66,7 +66,7 @@ second_by body is = by_mark (is_second body) is
 
 -- ---- damage
 
--- a body of the first format isn't damaged, and neither is one too short for a head
+-- a body of the first format isn't damaged, and a body too short for a head isn't either
 pub first_intact : (body : List ℕ) → format_in body ≡ First → is_damaged body ≡ false
 first_intact body is = by_length (leb 63 (length body)) (by_mark (is_second body) is)
   where
