@@ -1,4 +1,4 @@
--- The rows of the answers of a demonstration. The top call tells by them what `demo` answers.
+-- The rules for the answers of a demonstration, as the top call uses them for `demo`.
 use Rattle.std.proofs.Common.{◌≡◌, sym, subst, refl, arith, inl, inr, ◌⊎◌, ◌<◌, ◌≤◌, ⊎_elim, ℕ, List, [], ◌^◌, ◌-◌}
 use Rattle.faults.specs.Counts.{Rose}
 use Rattle.report_text.specs.Refusal.{out_of_memory, no_job, not_a_job, damaged, cells_differ, store_fault, device_fault, output_fault, call_failed, mismatch}
@@ -11,7 +11,7 @@ use Rattle.demo_job.specs.Run.{silence}
 use Rattle.demo_job.specs.Command.{Prints, Tells, resumed_in, TellsLawfully, DemoSays, SaysLawfully, DemoEnds}
 use Rattle.job_commands.specs.GoOn.{has_resume}
 
--- An end of a resume whose lines all went out.
+-- A resume ended, and all its lines went out.
 
 own_stands : (own : BenchCall) (out : SinkCall) (answer : Answer) → IsOf has_resume answer → StandsEarly on_job_file own silence answer
     → StandsEarly on_own_bench own out answer
@@ -46,7 +46,7 @@ own_lawful own inputs out answer is same = record {
   none_failed = is.none_failed;
 }
 
--- Of the bench that was handed in.
+-- The bench of the caller.
 module _ (bench : BenchCall) (inputs : InputsCall) (out : SinkCall) (untouched : IsUntouched bench) (takes : TakesNothing inputs) where
   unbegun_lawful : out.after.faults ≡ out.before.faults → EndsLawfully on_own_bench bench inputs out has_resume [] (refused out_of_memory)
   unbegun_lawful same = record {

@@ -1,4 +1,4 @@
--- The fixture, of its parts.
+-- The fixture, from its parts.
 use Rattle.std.proofs.Common.{◌≡◌, refl, Option, Some, None}
 use Rattle.std.specs.Prelude.{IsSomeAnd, slice_get}
 use Rattle.board_file.specs.Text.{IsBoard}

@@ -1,4 +1,4 @@
--- One draw more. The made cells and image are draws one after the other.
+-- One more draw. The made cells and the made image are draws, one after the other.
 use Rattle.std.proofs.Common.{◌≡◌, refl, sym, ap, ◌∙◌, arith, append-nil, append_assoc, ◌+◌, ℕ, zero, suc, List, [], ◌∷◌, ◌++◌, length}
 use Rattle.demo_job.specs.Generator.{next, byte_of, draws, after}
 

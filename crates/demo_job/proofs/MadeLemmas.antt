@@ -1,4 +1,4 @@
--- One sector more, and how long the cells are. The geometry of a made device and its cells grow so.
+-- Cells are made sector by sector: one more sector, and the number of cells. A made device's geometry grows in the same way.
 use Rattle.std.proofs.Common.{◌≡◌, refl, sym, ap, arith, ◌∙◌, ◌+◌, ◌*◌, ◌%◌, ◌^◌, ◌≤◌, subst, ◌==◌, ℕ, zero, suc, Bool, true, false, cond, List, [], ◌∷◌, ◌++◌}
 use Rattle.std.proofs.Common.{length, append_assoc, append-nil, length-append}
 use Rattle.std.specs.Prelude.{replicate}

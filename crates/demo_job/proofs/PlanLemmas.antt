@@ -1,4 +1,4 @@
--- The plan that is chosen, in other words: of the one region, whose cells are all.
+-- The chosen plan is that of the one region, which has all cells.
 use Rattle.std.proofs.Common.{◌≡◌, ◌++◌, ◌∙◌, ◌==◌, sym, ap, refl, arith, append-nil, ℕ, Bool, true, List, [], ◌∷◌, length, drop}
 use Rattle.std.proofs.lemmas.Bool.{and_parts, eqb-true}
 use Rattle.std.proofs.lemmas.List.{take_all, drop_all}
@@ -63,7 +63,7 @@ one_overlaid image region cells long =
     ∙ ap (λ (l : List ℕ). over image region.base cells ++ l) (drop_all region.size cells (omega (arith, long)))
     ∙ append-nil (over image region.base cells)
 
--- the image laid over the cells of the board is that over the cells
+-- the image laid over the cells of the board is the image laid over the cells
 pub laid_over : (seed : ℕ) (t : Fixture) → all_fit t.board t.board.regions (t.algorithm ∷ []) ≡ true → t.algorithm.device.base ≡ 0x08000000
     → t.algorithm.device.size ≡ 65536 → (work_of seed t).goal ≡ laid_of seed
 laid_over seed t fit base_is size_is =
@@ -72,6 +72,6 @@ laid_over seed t fit base_is size_is =
     ∙ one_overlaid (image_of seed) only.region (cells_of seed) (length-cells seed ∙ sym (only.size_is ∙ size_is))
     ∙ ap (λ (n : ℕ). over (image_of seed) n (cells_of seed)) (only.base_is ∙ base_is)
 
--- the part of as many cells that is the first region's is all of them
+-- the part of all cells that belongs to the first region is all of them
 pub all_part : (b : board.Shown) (a : flm.Shown) (cells : List ℕ) → a.device.size ≡ 65536 → length cells ≡ 65536 → part (site_of b a 0) cells ≡ cells
 all_part b a cells size long = take_all a.device.size cells (omega (arith, size, long))

@@ -1,4 +1,4 @@
--- What the loss of the power leaves, and what a resume of it leaves that is done.
+-- What the loss of the power leaves, and what a finished resume leaves of it.
 use Rattle.std.proofs.Common.{◌≡◌, ◌≢◌, ◌⊎◌, ⊎_elim, inl, inr, refl, sym, ap, subst, arith, ◌∙◌, ◌≤◌, ◌<◌, ℕ, true, List, [], ◌∷◌, option_copied, Option, Some}
 use Rattle.std.proofs.Common.{None}
 use Rattle.std.specs.Prelude.{length, ◌^◌}
@@ -51,7 +51,7 @@ left_pair seed t fresh lost is =
     (λ (past : is.carries.stops.closing ≤ now). inr (pairs.from now (bench_of lost).file (bench_of lost).cells past (omega arith) is.left.0 is.left.1))
     (cases_lt now is.carries.stops.closing)
 
--- a file that a stop of a fresh bench leaves is free
+-- a stop of a fresh bench leaves a free file
 free_at : (seed : ℕ) (fresh : MemoryBench) → IsFresh seed (bench_of fresh) → (file : List ℕ) → left (file_half (bench_of fresh)) file → IsFree file
 free_at seed fresh is file at = subst (λ (f : List ℕ). IsFree f) (sym (is.rest.file file at ∙ is.file)) tt
 
@@ -96,7 +96,7 @@ done_laid seed t fresh lost after is_fresh is base cells from =
     at_close.whole_or_closed)
     (left_pair seed t fresh lost is)
 
--- status 0 is nothing else than done
+-- no refusal has status 0
 no_zero : (reason : Reason) → status_of reason ≡ 0 → ⊥
 no_zero reason is = omega (arith, some_status reason, is)
 
@@ -118,7 +118,7 @@ pub want_is_one : (end : Option Refusal) → answer_in end ≡ refused out_of_me
 unfolding status_at
 want_is_one end is = sym (status_same end) ∙ ap status_at is
 
--- The job's parts, and the job that is begun of them.
+-- The parts of the job, and the job that is begun from them.
 
 short_text : length board_text < 2 ^ 32
 unfolding board_text

@@ -1,4 +1,4 @@
--- What is shown of a run. For the lines that a demonstration returns.
+-- What a run shows, for the lines that a demonstration returns.
 use Rattle.std.proofs.Common.{◌≡◌, ◌∙◌, refl, sym, ap, ℕ, Bool, true, false, List, [], None, Result, Ok, Err}
 use Rattle.std.specs.Prelude.{IsTrue, ◌↔◌, nat_eq, IfOk}
 use Rattle.std.specs.Cmp.Lexicographic.{pointwise, same_text, other_text}
@@ -10,7 +10,7 @@ use Rattle.command_files.specs.Inputs.{InputsCall, inputs_call, TakesNothing}
 use Rattle.demo_job.specs.Made.{cells_of}
 use Rattle.demo_job.specs.Run.{IsFresh}
 
--- what a test of two lists of bytes says
+-- a test of two lists of bytes is true exactly if they are equal
 pub bytes_same : (xs ys : List ℕ) (r : Bool) → r ≡ pointwise nat_eq xs ys → IsTrue r ↔ (xs ≡ ys)
 bytes_same xs ys true is = ((λ told. same_text xs ys is), (λ same. refl))
 bytes_same xs ys false is = ((λ told. absurd (false≢true told)), (λ same. absurd (other_text xs ys is same)))

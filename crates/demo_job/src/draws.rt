@@ -7,7 +7,7 @@ use faults::OutOfMemory;
 /// The factor by which a state is multiplied.
 const MULTIPLIER: u64 = 1_664_525;
 
-/// The number that is then added.
+/// The number that is added to the product.
 const INCREMENT: u64 = 1_013_904_223;
 
 /// The number of states.

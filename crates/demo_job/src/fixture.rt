@@ -53,7 +53,7 @@ pub(crate) fn make_fixture(alloc: Global) -> Result<Fixture, OutOfMemory>
     })
 }
 
-/// The board of the text, which is one.
+/// The board that the text describes; the text is that of a board.
 #[tactic(auto, unfolding(crate::specs::Fixture::board_text))]
 fn board(alloc: Global) -> Result<Board, OutOfMemory>
     ensures { IfOk result (λ b. IsBoard board_text (board_shown b)) }

@@ -1,4 +1,4 @@
--- From the steps of `compare` to its end. Each step that may end `compare` has its lemma.
+-- From the steps of `compare` to its end, with a lemma for each step that may end it.
 use Rattle.std.proofs.Common.{◌≡◌, ◌<◌, ◌≤◌, ◌+◌, ◌∙◌, ⊎_elim, sym, ap, subst, refl, arith, inl, inr, ℕ, Bool, true, IsTrue, List, [], ◌∷◌, length, take}
 use Rattle.std.proofs.Common.{get_or, zero-add}
 use Rattle.std.proofs.Math.Seq.{take-length}
@@ -20,14 +20,14 @@ use Rattle.flm_cli.proofs.FoundLemmas.{leaves_early, found_cases, compared_lawfu
 
 -- The cells and the bytes of a file.
 
--- where a difference is, the cells aren't the bytes
+-- cells with a difference aren't the bytes
 never_both : (cells bytes : List ℕ) (place wanted found : ℕ) → IsFirstDifference true cells 0 bytes place wanted found
     → (n : ℕ) → place < n → take n cells ≡ take n bytes → ⊥
 never_both cells bytes place wanted found first n less same =
     first.unequal (sym first.is_wanted ∙ sym (get_or-take n bytes place 0 less) ∙ ap (λ (l : List ℕ). get_or l place 0) (sym same)
     ∙ get_or-take n cells place 0 less ∙ ap (λ (i : ℕ). get_or cells i 0) (sym (zero-add place)) ∙ first.is_found refl)
 
--- there is one first difference
+-- there is only one first difference
 one_place : (cells bytes : List ℕ) (p w f q x g : ℕ) → IsFirstDifference true cells 0 bytes p w f → IsFirstDifference true cells 0 bytes q x g → p ≡ q
 one_place cells bytes p w f q x g one two = ⊎_elim
     (λ (less : p < q). absurd (never_both cells bytes p w f one q less (two.least refl)))

@@ -1,4 +1,4 @@
--- From what a comparison found to the end of the work. `compare` and `verify` end so.
+-- From the result of a comparison to the end of the work, for `compare` and `verify`.
 use Rattle.std.proofs.Common.{◌≡◌, ◌<◌, ◌+◌, ◌^◌, sym, subst, refl, ℕ, IfOk, Option, Some, None, Result, Ok, Err}
 use Rattle.std.specs.Option.{ForSome}
 use Rattle.std.specs.Result.{ForOk}
@@ -43,7 +43,7 @@ module _ (bench : BenchCall) (out : SinkCall) (base : ℕ) (Agrees : Type 0) (Di
     out_count = unraised out.before.faults out.after.faults output (refused (differs (base + d.at) d.want d.got)) tells.prints.faults (λ is. cc);
   })
 
--- the address of a difference is a word, where that of each difference is
+-- the address of a difference fits 32 bits, where each address of a difference does
 pub told_fits : (base : ℕ) (Agrees : Type 0) (Differs : ℕ → ℕ → ℕ → Type 0) (found : Result (Option Difference) DeviceFault)
     → IfOk found (FoundBy base Agrees Differs)
     → ((at wanted byte : ℕ) → Differs at wanted byte → at < 2 ^ 32) → ForOk found (λ difference. ForSome difference (λ d. base + d.at < 2 ^ 32))

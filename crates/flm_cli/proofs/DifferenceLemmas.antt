@@ -1,4 +1,4 @@
--- The cells of a region against an image, run by run. `find_in_region` and `find_in_run` go on by them.
+-- The cells of a region against an image, run by run, as `find_in_region` and `find_in_run` compare them.
 use Rattle.std.proofs.Common.{◌≡◌, ◌≢◌, ◌<◌, ◌≤◌, ◌+◌, ◌^◌, ◌++◌, ◌∙◌, sym, ap, subst, refl, arith, inl, inr, ◌⊎◌, ⊎_elim, ℕ, Bool, true, false, IsTrue, List}
 use Rattle.std.proofs.Common.{[], ◌∷◌, ◌-◌, max, min, length, length-drop, take, drop, get_or, slice_get, slice_index, Option, Some, None, is_some, Ok}
 use Rattle.std.proofs.lemmas.List.{take_more, take_all, length-take-le, length-take, get_or-take, get_or-drop}
@@ -38,7 +38,7 @@ in_run run a byte is =
             is = sym (byte_is ∙ ap (λ (n : ℕ). byte_of (run_at (run ∷ []) n) a) zero);
           }
 
--- The part of a run that lies in a region, from one of its offsets to another.
+-- The part of a run in a region, from one offset of the run to another.
 
 module _ (tells : Bool) (cells : List ℕ) (start base size at : ℕ) (bytes : List ℕ) (low high : ℕ) (part : List ℕ)
     (part_is : part ≡ take (high - low) (drop low bytes)) (many : length part ≡ high - low) (order : low < high) (within : high ≤ length bytes)
@@ -54,7 +54,7 @@ module _ (tells : Bool) (cells : List ℕ) (start base size at : ℕ) (bytes : L
   part_byte i less =
       ap (λ (l : List ℕ). get_or l i 0) part_is ∙ get_or-take (high - low) (drop low bytes) i 0 (omega (arith, less, many)) ∙ get_or-drop low bytes i 0
 
-  -- where the first cells are the first bytes of the part, they agree with the run
+  -- where the first cells are the first bytes of the part, the cells agree with the run
   part_agrees : (n : ℕ) → n ≤ length part → take n (drop first_place cells) ≡ take n part → (offset byte : ℕ) → base + offset < at + low + n
       → byte_at (whole_run ∷ []) (base + offset) ≡ Some byte → slice_index cells (start + offset) ≡ byte
   part_agrees n all same offset byte below held =
@@ -96,7 +96,7 @@ module _ (tells : Bool) (cells : List ℕ) (start base size at : ℕ) (bytes : L
         least = λ told k byte below held. part_agrees i (omega (arith, less)) (finds.first.least told) k byte (omega (arith, below, address)) held;
       }
 
--- a run that has no address of a region
+-- a run without an address in the region shows no difference there
 pub apart_same : (tells : Bool) (cells : List ℕ) (start base size at : ℕ) (bytes : List ℕ)
     → ((a : ℕ) → at ≤ a → a < at + length bytes → base ≤ a → a < base + size → ⊥)
     → FindsInRegion tells cells start base size (record { at = at; bytes = bytes } ∷ []) None
@@ -104,7 +104,7 @@ apart_same tells cells start base size at bytes apart = λ told offset byte insi
     let in_it = in_run (record { at = at; bytes = bytes }) (base + offset) byte held in
     absurd (apart (base + offset) in_it.from in_it.to (omega arith) (omega (arith, inside)))
 
--- The part of a run from one address to another, which are those that both the run and the region have.
+-- The part of a run in a region: the addresses that the run and the region share.
 
 module _ (tells : Bool) (cells : List ℕ) (start base size at : ℕ) (bytes : List ℕ) (from end : ℕ) (from_is : from ≡ max at base)
     (end_is : end ≡ min (at + length bytes) (base + size)) where
@@ -150,7 +150,7 @@ module _ (tells : Bool) (cells : List ℕ) (start base size at : ℕ) (bytes : L
 
 -- Runs in turn.
 
--- the cells are the bytes of the first runs, and the bench was only read so far
+-- the cells agree with the first `done` runs, and the bench was only read so far
 pub record RunsSoFar (tells : Bool) (start now : BenchState) (first base size : ℕ) (image : List Run) (done : ℕ) : Type 0 where
   pub agree : IsTrue tells → RegionAgreesBelow start.cells first base (take done image) size
   pub bench : OnlyReadsCells tells start now
@@ -171,7 +171,7 @@ pub run_ends : (image : List Run) (k : ℕ) (run : Run) → AreMaximal 0 (2 ^ 32
 run_ends image k run maximal less is =
     subst (λ (r : Run). end_of r ≤ 2 ^ 32) (run_is image k run is) (each_run 0 (2 ^ 32) image k maximal less).2
 
--- bytes of two lists of runs
+-- a byte that the first or else the second of two lists of runs has
 either : (one two : Option ℕ) (byte : ℕ) → or_else one two ≡ Some byte → (one ≡ Some byte) ⊎ (two ≡ Some byte)
 either None two byte is = inr is
 either (Some x) two byte is = inl is
@@ -198,7 +198,7 @@ module _ (tells : Bool) (start mid : BenchState) (first base size : ℕ) (image 
   }
   runs_then now (Some d) finds none reads faults = absurd (cc)
 
-  -- where an earlier run, this one or a later one has a byte
+  -- a byte of the image below the end of this run is a byte of an earlier run or of this one
   where_held : (maximal : AreMaximal 0 (2 ^ 32) image) (at : ℕ) → at < end_of run → (a byte : ℕ) → a < at → byte_at image a ≡ Some byte
       → (byte_at (take done image) a ≡ Some byte) ⊎ (byte_at (run ∷ []) a ≡ Some byte)
   where_held maximal at inside a byte below held =

@@ -10,7 +10,7 @@ use Rattle.command_files.specs.Answered.{input, store, device, output, fault_in,
 use Rattle.command_files.proofs.AnswerLemmas.{unraised, never_store}
 use Rattle.flm_cli.specs.Comparison.{ComparisonLeaves, Found, Compares, IsCompared, IsDue}
 
--- a refusal that is no answer of the comparison
+-- whether a refusal comes before the comparison
 abbrev pub is_early : Refusal → Bool
 is_early device_fault = false
 is_early output_fault = false
@@ -60,7 +60,7 @@ compared_lawful bench inputs out has names A D answer none kind same compares = 
   none_failed = λ told no. same.failed told;
 }
 
--- each answer comes where it is due, since the cells don't both agree and differ, and differ first at one place
+-- each answer comes where it is due: the cells don't both agree and differ, and there is one first difference
 pub is_due : (bench : BenchCall) (Agrees : Type 0) (Differs : ℕ → ℕ → ℕ → Type 0)
     → (IsTrue bench.tells → (at wanted found : ℕ) → Agrees → Differs at wanted found → ⊥)
     → (IsTrue bench.tells → (p w f q x g : ℕ) → Differs p w f → Differs q x g → differs p w f ≡ differs q x g)
@@ -87,7 +87,7 @@ is_due bench A D both once (refused (differs p w f)) found = record {
 }
 is_due bench A D both once (refused r) found = absurd found
 
--- an answer that yields is due anywhere
+-- an answer that yields may always come
 pub due_yielding : (bench : BenchCall) (Agrees : Type 0) (Differs : ℕ → ℕ → ℕ → Type 0) (answer : Answer) → yields answer ≡ true → IsCompared answer
     → IsDue bench Agrees Differs answer
 due_yielding bench A D answer yields complete = record {

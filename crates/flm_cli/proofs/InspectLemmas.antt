@@ -1,4 +1,4 @@
--- From the steps of `inspect` to its end. Each step that may end `inspect` has its lemma.
+-- From the steps of `inspect` to its end, with a lemma for each step that may end it.
 use Rattle.std.proofs.Common.{◌≡◌, ◌⊎◌, ◌∙◌, sym, ap, subst, refl, inl, inr, ℕ, Bool, true, IsTrue, List, [], ◌∷◌, Err, Some, ◌≢◌}
 use Rattle.bench_model.specs.State.{BenchState}
 use Rattle.outside_io.specs.State.{SinkState}
@@ -57,7 +57,7 @@ module _ (tells told : Bool) (b : BenchState) (o : SinkState) (inputs : InputsCa
     ends_unread faults.OutOfMemory is = ends_untaken out_of_memory same
     ends_unread fault is = ends_refused fault (is (λ wrong. cc))
 
--- the algorithm's text was put, or a beginning of it
+-- the text of the algorithm was put, or a beginning of it
 module _ (tells : Bool) (b : BenchState) (inputs : InputsCall) (out : SinkCall) (flm bytes : List ℕ) (algorithm : Shown) (file : IsFile inputs flm bytes)
     (same : NoneFailed inputs) (is : IsFlm bytes algorithm) where
   says_so : (answer : Answer) → ((fault : FlmFault) → flm_of bytes ≡ Err fault → ⊥) → (answer ≡ done) ⊎ (yields answer ≡ true)

@@ -1,4 +1,4 @@
--- What was found where cells were compared.
+-- What a comparison of cells found.
 use Rattle.std.proofs.Common.{◌≡◌, ◌+◌, ◌∙◌, sym, ap, subst, arith, ℕ, Bool, IfOk, List, length, take, drop, slice_index, Option, Some, None, Result, Ok, Err}
 use Rattle.bench_model.specs.State.{BenchState}
 use Rattle.bench_model.specs.declared.bench_fault.DeviceFault.{DeviceFault}

@@ -1,4 +1,4 @@
--- From the regions one by one to all cells. `find_in_regions` counts places over all of them by these.
+-- From each region to all cells: `find_in_regions` counts places over all regions.
 use Rattle.std.proofs.Common.{◌≡◌, ◌≢◌, ◌<◌, ◌≤◌, ◌+◌, ◌-◌, ◌∙◌, sym, ap, subst, refl, arith, ⊎_elim, ℕ, Bool, true, false, IsTrue, List, [], ◌∷◌, length}
 use Rattle.std.proofs.Common.{get_or, drop, slice_index, Option, Some, None, is_some}
 use Rattle.std.proofs.lemmas.List.{drop_more, drop_all}
@@ -152,7 +152,7 @@ same_cells true cells mid start base size image found same finds =
     subst (λ (l : List ℕ). FindsInRegion true l start base size image found) (same refl) finds
 same_cells false cells mid start base size image found same finds = untold cells mid start base size image found finds
 
--- Region by region: those before this one agree, and what the others have is what all have.
+-- Region by region: what a search from this region on finds is what a search of all regions finds.
 pub record RegionsSoFar (tells : Bool) (old now : BenchState) (regions : List Region) (image : List Run) (index start : ℕ) : Type 0 where
   pub bench : OnlyReadsCells tells old now
   pub faults : now.device_faults ≡ old.device_faults
@@ -180,7 +180,7 @@ module _ (tells : Bool) (old now : BenchState) (regions : List Region) (image : 
         → FindsFrom tells old.cells 0 regions image o
     from_here o one = so_far.rest o (subst (λ (rs : List Region). FindsFrom tells old.cells start rs image o) (sym front) one)
 
-    -- it differs
+    -- this region differs
     differs_by : (o : Option Difference) → found ≡ o → is_some o ≡ true → FindsInImage tells old.cells regions image o
     differs_by None same some = absurd (cc)
     differs_by (Some d) same some =
@@ -191,7 +191,7 @@ module _ (tells : Bool) (old now : BenchState) (regions : List Region) (image : 
     pub region_differs : is_some found ≡ true → FindsInImage tells old.cells regions image found
     region_differs some = differs_by found refl some
 
-    -- it agrees
+    -- this region agrees
     agrees_by : (o : Option Difference) → found ≡ o → is_some o ≡ false → IsTrue tells → RegionAgreesBelow old.cells start region.base image region.size
     agrees_by None same none = subst (λ (o : Option Difference). FindsInRegion tells old.cells start region.base region.size image o) same here
     agrees_by (Some d) same none = absurd (cc)

@@ -1,4 +1,4 @@
--- From the steps of `plan` to its end. Each step that may end `plan` has its lemma.
+-- From the steps of `plan` to its end, with a lemma for each step that may end it.
 use Rattle.std.proofs.Common.{◌≡◌, ◌≢◌, ◌<◌, ◌≤◌, ◌+◌, ◌-◌, ◌^◌, ◌∙◌, sym, ap, subst, refl, arith, inl, inr, ℕ, zero, suc, Bool, true, false, nat_lt, IsTrue}
 use Rattle.std.proofs.Common.{IsSome, is_some, All, List, [], ◌∷◌, ◌++◌, map, length, take, drop, set, get_or, append-nil, Option, option_to_list, Some, None}
 use Rattle.std.proofs.Common.{Result, OnOk, Ok, Err}
@@ -81,7 +81,7 @@ module _ (bench : BenchCall) (out : SinkCall) (text : List ℕ → List ℕ) whe
     none_failed = λ told no. same.failed told;
   }
 
-  -- with every answer that which is to be printed is
+  -- whatever the answer is, the text that is due was printed
   prints_due : (answer : Answer) → PrintsNothing out answer → Printed bench out text answer → IsTrue bench.tells
       → PrintsText out (text bench.after.cells) answer
   prints_due done nothing printed told = subst (λ (c : List ℕ). PrintsText out (text c) done) (sym (printed.surveyed told)) printed.prints
@@ -91,7 +91,7 @@ module _ (bench : BenchCall) (out : SinkCall) (text : List ℕ → List ℕ) whe
   prints_due (refused device_fault) nothing printed told = nothing
   prints_due (refused r) nothing printed told = absurd printed
 
--- no memory, before the cells are looked at
+-- memory runs out before the cells are looked at
 pub plans_nothing : (tells told : Bool) (b : BenchState) (o : SinkState) (text : List ℕ → List ℕ)
     → PlansCells (bench_call tells b b) (sink_call told o o) text (refused out_of_memory)
 plans_nothing tells told b o text = record {
@@ -134,7 +134,7 @@ module _ (bench : BenchCall) (told : Bool) (o : SinkState) (text : List ℕ → 
       out_count = unraised o.faults after.faults output done (puts.cause.on_ok refl) (λ is. cc);
     }
 
-    -- a part of it
+    -- a beginning of the text is put
     pub plans_cut : (v : Unit {0}) → LooksAtCells bench (Ok v) → (IsTrue bench.tells → bench.after.cells ≡ cells)
         → (e : OutputFault) → Puts told o after (text cells) (Err e) → PlansCells bench (sink_call told o after) text (refused output_fault)
     plans_cut v looks surveyed f puts = record {
@@ -150,7 +150,7 @@ module _ (bench : BenchCall) (told : Bool) (o : SinkState) (text : List ℕ → 
       out_count = record { later = puts.cause.later; only = λ its. puts.cause.on_fault refl; answered = λ more. refl };
     }
 
--- The exits before it.
+-- The ends before the work on the cells.
 
 module _ (tells told : Bool) (b : BenchState) (o : SinkState) (inputs : InputsCall) (asked : FilesAsked) where
   abbrev Bench : BenchCall
@@ -284,7 +284,7 @@ pub devices_of : (raw_at : Option ℕ) (files : FilesGiven) (aim : Aim) → IsAi
 devices_of raw_at files aim is some any =
     as_many aim.board aim.board.regions files.flm files.images aim.algorithms some is.are_read.board.enough any is.are_read.algorithms
 
--- their devices have the regions' cells
+-- the devices have as many cells as the regions
 pub device_cells : (regions : List Region) (algorithms : List flm.Shown) → AreDevices regions algorithms → cells_on algorithms ≡ size_of regions
 device_cells [] [] devices = refl
 device_cells (r ∷ rs) (a ∷ more) devices = omega (arith, size_of-cons r rs, devices.1, device_cells rs more devices.2)
@@ -337,7 +337,7 @@ module _ (bench : BenchCall) (inputs : InputsCall) (out : SinkCall) (asked : Fil
         (planned_shows answer plans.printed) (planned_due answer plans.leaves.prints plans.printed);
   }
 
--- The memory.
+-- The memory for the plans.
 
 parts_more : (algorithms : List flm.Shown) (start : ℕ) (parts : List RegionPlan) (a : flm.Shown) (p : RegionPlan) → AreParts algorithms start parts →
     IsRegionPlanFor a p
@@ -402,7 +402,7 @@ many_parts [] start [] are = refl
 many_parts (a ∷ algorithms) start (p ∷ parts) are = ap suc (many_parts algorithms (start + a.device.size) parts are.2)
 many_parts algorithms start parts are = absurd are
 
--- one of them, within all cells
+-- a plan is one by an algorithm, for cells within all cells
 pub record IsOneOf (a : flm.Shown) (p : RegionPlan) (end : ℕ) : Type 0 where
   pub is : IsRegionPlanFor a p
   pub inside : p.start + a.device.size ≤ end
@@ -443,7 +443,7 @@ module _ (tells : Bool) (weights : Weights) (image : List Run) where
   plans_still all cells (a ∷ algorithms) (p ∷ parts) same are = (plan_still all cells a p same are.0, plans_still all cells algorithms parts same are.1)
   plans_still all cells algorithms parts same are = absurd are
 
-  -- the cells were only read since
+  -- the plans stay right while the cells are only read
   pub plans_since : {T E : Type 0} (r : Result T E) (all cells : List ℕ) (algorithms : List flm.Shown) (parts : List RegionPlan) → (IsTrue tells → cells ≡ all)
       → OnOk r (ArePlanned tells weights image all algorithms parts) → OnOk r (ArePlanned tells weights image cells algorithms parts)
   plans_since (Ok v) all cells algorithms parts same are = plans_still all cells algorithms parts (λ told. sym (same told)) are
@@ -504,7 +504,7 @@ module _ (tells : Bool) (weights : Weights) (image : List Run) where
       (take_all i algorithms (omega (arith, past, many_parts algorithms 0 parts so_far.are)))
       (subst (λ (l : List RegionPlan). ArePlanned tells weights image before.cells (map flm.shown (take i algorithms)) l) (take_all i parts past) so_far.plans)
 
--- What is printed.
+-- The text that is printed.
 
 next_cells : (start n m : ℕ) (all : List ℕ) → take n (drop start all) ++ take m (drop (start + n) all) ≡ take (n + m) (drop start all)
 next_cells start n m all = ap (λ (l : List ℕ). take n (drop start all) ++ take m l) (sym (drop-drop n start all)) ∙ sym (take-add n m (drop start all))
@@ -524,7 +524,7 @@ module _ (tells : Bool) (weights : Weights) (image : List Run) (all : List ℕ) 
       ∙ ap (λ (n : ℕ). plan_text (device_of a) n (chosen (device_of a) weights chip empty is.cells (over image a.device.base is.cells))) (part.base ∙ base)
       ∙ ap (λ (n : ℕ). plan_text (device_of a) r.base (chosen (device_of a) weights chip empty is.cells (over image n is.cells))) base
 
-  -- some cells, from a place on, whose plans these are
+  -- the plans are those of some cells, from a place on
   pub record AreOf (regions : List Region) (algorithms : List flm.Shown) (start : ℕ) (parts : List RegionPlan) : Type 0 where
     pub cells : List ℕ
     pub long : length cells ≡ size_of regions
@@ -589,7 +589,7 @@ named_texts : (parts : List RegionPlan) → flat_map (λ (p : RegionPlan). part_
 named_texts [] = refl
 named_texts (p ∷ parts) = ap (λ (l : List ℕ). part_text true p ++ l) (named_texts parts)
 
--- the texts of all, one after the other
+-- the texts of all plans, one after the other
 pub all_texts : (parts : List RegionPlan) → flat_map (λ (p : RegionPlan). part_text (nat_lt 1 (length parts)) p) parts ≡ parts_text parts
 all_texts [] = refl
 all_texts (p ∷ []) = append-nil (part_text false p)

@@ -32,7 +32,7 @@ pub ends_as : (words : List (List ℕ)) (read asked : Option Command) (bench : B
 ends_as words read asked bench inputs out answer given_read given ends =
     subst (λ (a : Option Command). EndsOf a bench inputs out answer) (one_asked words read asked given_read given) ends
 
--- Where no object was called.
+-- No object was called.
 module _ (tells given told : Bool) (b : BenchState) (i : InputsState) (o : SinkState) where
   abbrev Bench : BenchCall
   Bench = bench_call tells b b

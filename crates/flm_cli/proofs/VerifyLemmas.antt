@@ -1,4 +1,4 @@
--- From the steps of `verify` to its end. Each step that may end `verify` has its lemma.
+-- From the steps of `verify` to its end, with a lemma for each step that may end it.
 use Rattle.std.proofs.Common.{◌≡◌, ◌≢◌, ◌<◌, ◌^◌, ◌∙◌, ⊎_elim, sym, ap, subst, refl, arith, inl, inr, ℕ, Bool, true, IsTrue, IsSome, List, [], ◌∷◌, length}
 use Rattle.std.proofs.Common.{slice_index, option_to_list, Option, Some, None}
 use Rattle.std.proofs.lemmas.Bool.{cases_lt}
@@ -68,7 +68,7 @@ module _ (bench : BenchCall) (regions : List Region) (image : List Run) where
       let found : f ≡ g = sym (a.is_found refl) ∙ ap (λ (n : ℕ). slice_index cells n) place ∙ b.is_found refl in
       cc
 
--- an address at which the image has a byte is a word
+-- an address at which the image has a byte fits 32 bits
 pub address_fits : (raw_at : Option ℕ) (files : FilesGiven) (aim : Aim) (bench : BenchCall) (at byte found : ℕ) → IsAim raw_at files aim
     → DiffersAt bench aim.board.regions aim.image at byte found → at < 2 ^ 32
 address_fits raw_at files aim bench at byte found is differ =
@@ -78,7 +78,7 @@ address_fits raw_at files aim bench at byte found is differ =
 
 -- The files.
 
--- no FLM file is asked for, so there is none
+-- where no FLM file is asked for, none is given
 no_flm : (inputs : InputsCall) (asked : FilesAsked) (files : FilesGiven) → asked.flm ≡ None → AreFiles inputs asked files → files.flm ≡ None
 no_flm inputs asked files none are = count_none asked.flm files.flm are.flm.count none where
   count_none : (a b : Option (List ℕ)) → length (option_to_list b) ≡ length (option_to_list a) → a ≡ None → b ≡ None
@@ -96,7 +96,7 @@ no_flm_refused : (b : board.Shown) (file : Option (List ℕ)) (others : List (Li
 no_flm_refused b None others r none is = no_files b b.regions r is
 no_flm_refused b (Some x) others r none is = cc
 
--- nor are there too few names
+-- an FLM file isn't both missing and given
 no_flm_short : (file : Option (List ℕ)) → file ≡ None → IsSome file → ⊥
 no_flm_short None none some = cc
 no_flm_short (Some x) none some = cc
@@ -112,20 +112,20 @@ module _ (bench : BenchCall) (inputs : InputsCall) (out : SinkCall) (asked : Fil
   abbrev FilesAnswered : Answer → Type 0
   FilesAnswered answer = AnswersFiles bench inputs out asked answer (λ files. Shows bench answer) (λ files. IsDueForImage bench out answer)
 
-  -- an answer that yields before anything was done
+  -- an answer yields before anything was done
   files_yielding : (answer : Answer) → yields answer ≡ true → DidNothing bench out → comparison.IsCompared answer
       → ShowsFiles inputs asked (λ files. Shows bench answer) answer → FilesAnswered answer
   files_yielding answer yields did complete shows =
       answers_yielding bench inputs out asked (λ files. Shows bench answer) (λ files. IsDueForImage bench out answer) answer yields did
       (λ files aim. due_yielding_for answer aim yields did complete) shows
 
-  -- a refusal of the files
+  -- the files are refused
   files_refused : (r : Refusal) (files : FilesGiven) → AreFiles inputs asked files → IsRefused asked files r
       → ShowsFiles inputs asked (λ files. Shows bench (refused r)) (refused r) → FilesAnswered (refused r)
   files_refused r files are is shows =
       answers_refused bench inputs out asked (λ files. Shows bench (refused r)) (λ files. IsDueForImage bench out (refused r)) r files are is shows
 
-  -- an answer of the work on an aim
+  -- an answer of the work on what the files want
   files_worked : (answer : Answer) (files : FilesGiven) (aim : Aim) → AreFiles inputs asked files → IsAim asked.raw_at files aim
       → ShowsFiles inputs asked (λ files. Shows bench answer) answer → IsDueForImage bench out answer aim → FilesAnswered answer
   files_worked answer files aim are is shows due =

@@ -1,2 +1,2 @@
--- The pairs among words.
+-- The pairs of file names among the words.
 mod PairLemmas

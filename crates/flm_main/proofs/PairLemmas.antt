@@ -1,4 +1,4 @@
--- The pairs among words.
+-- The pairs of file names among the words.
 use Rattle.std.proofs.Common.{◌≡◌, ◌≤◌, ◌<◌, ◌+◌, ◌*◌, ◌++◌, ◌∙◌, ◌⊎◌, inl, inr, ℕ, zero, suc, List, [], ◌∷◌, length, take, map, get_or, sym, ap, arith, refl}
 use Rattle.std.proofs.Common.{take_all, length-take-le}
 use Rattle.std.proofs.lemmas.List.{map-append, take_more}
@@ -45,7 +45,7 @@ in_whole {A = A} (suc n) (suc i) [] less = elim less [ ]
 in_whole (suc n) zero (x ∷ xs) less = omega (arith)
 in_whole (suc n) (suc i) (x ∷ xs) less = omega (arith, in_whole n i xs (omega (arith, less)))
 
--- one more of a list of names
+-- one more name of a list of names
 pub names_on : {A : Type 0} (f : A → List ℕ) (items : List A) (b : A) (names : List (List ℕ)) (i : ℕ) → map f items ≡ take i names → i < length names
     → f b ≡ get_or names i []
     → map f (items ++ (b ∷ [])) ≡ take (i + 1) names

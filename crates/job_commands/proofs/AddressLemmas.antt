@@ -1,4 +1,4 @@
--- A search for the address of a place, region by region. `find_address` finds it so.
+-- A search for the address of a place, region by region, as `find_address` does it.
 use Rattle.std.proofs.Common.{◌≡◌, ◌≤◌, ◌<◌, ◌+◌, ◌-◌, ◌∙◌, sym, ap, ℕ, List, ◌∷◌, length, get_or, drop, Some, None}
 use Rattle.std.proofs.lemmas.List.{drop_more, drop_all}
 use Rattle.board_file.specs.declared.region.Region.{Region}

@@ -1,4 +1,4 @@
--- A job was begun (a to b), and is carried (b to d). `begin_job` joins both stretches by them.
+-- A job is begun (a to b) and then carried (b to d): `begin_job` joins the two stretches.
 use Rattle.std.proofs.Common.{arith, ◌≡◌, ◌⊎◌, ⊎_elim, inl, inr, refl, ◌∙◌, ℕ, Bool, true, false, List, [], ◌∷◌, length, IsTrue, Option, None, sym, subst}
 use Rattle.outside_io.specs.State.{SinkState}
 use Rattle.bench_model.specs.History.{GoesOn, Leaves, LeftOnly}
@@ -34,7 +34,7 @@ use Rattle.job_commands.proofs.StartLemmas.{over_free, over_as}
 three_cases : {A B C R : Type 0} → (A → R) → (B → R) → (C → R) → A ⊎ (B ⊎ C) → R
 three_cases {A} {B} {C} a b c either = ⊎_elim (λ (x : A). a x) (λ (rest : B ⊎ C). ⊎_elim (λ (x : B). b x) (λ (x : C). c x) rest) either
 
--- From b on nothing is open and the file stands for the job.
+-- From b on no operation is open, and the file stands for the job.
 
 module _ (tells : Bool) (a b d : BenchState) (out : SinkCall) (w : Work) (idle : b.operation ≡ None) (same : SameOutside a.operation a.cells b.cells)
     (whole : IsWhole (body w) b.file) where
@@ -80,7 +80,7 @@ module _ (tells : Bool) (a b d : BenchState) (out : SinkCall) (w : Work) (idle :
   begun_comes k (refused (input_fault name)) comes = tt
   begun_comes k (refused other) comes = absurd comes
 
-  -- what holds from its turn on, which is at b
+  -- what holds of the cells from the turn on, where the turn is at b
   from_there : {turn : ℕ} {First : List ℕ → Type 0} (P : List ℕ → Type 0) → turn ≡ b.moment → CellsInTurn b d turn First P
       → Leaves (cells_half b) (cells_half d) P
   from_there {turn} {First} P is one = record { goes_on = one.goes_on; each = λ k c from to at. one.from k c (omega (arith, from, is)) to at }
@@ -111,13 +111,13 @@ module _ (tells : Bool) (a b d : BenchState) (out : SinkCall) (w : Work) (idle :
         complete = rest.complete;
       }
 
--- no answer of a job's work is changed once it was begun
+-- an answer of the work on a job stays the same once the job was begun
 pub begun_is : {bench : BenchCall} {out : SinkCall} {First : List ℕ → List ℕ → Type 0} {w : Work} (answer : Answer) → Carries bench out First w answer
     → begun answer ≡ answer
 begun_is (refused no_job) carries = absurd carries.comes
 begun_is answer carries = refl
 
--- after a job was begun its file is never refused, where the bench tells it
+-- after a job was begun its file is never refused, on a bench that tells its contents
 pub begun_stands : (tells sinks : Bool) (a b d : BenchState) (p r : SinkState) (First : List ℕ → List ℕ → Type 0) (w : Work) (answer : Answer)
     → IsOf has_resume answer
     → StandsEarly on_job_file (bench_call tells b d) (sink_call sinks p r) answer
@@ -139,7 +139,7 @@ begun_stands tells sinks a b d p r First w (refused (call_failed number call end
 begun_stands tells sinks a b d p r First w (refused (mismatch at wanted found)) kind early carries = tt
 begun_stands tells sinks a b d p r First w (refused other) kind early carries = absurd (cc)
 
--- A job was begun, and b is what its beginning left.
+-- A job was begun, which left the state b.
 pub record IsBegun (a b : BenchState) (parts : JobParts) : Type 0 where
   pub is_free : IsFree a.file
   pub same : SameOutside a.operation a.cells b.cells
@@ -166,7 +166,7 @@ begun_of tells sinks a b p parts are sized starts =
       off = subst (λ (s : List ℕ). BrokenOff a b s) (sym has.cells) of.2.broken_off;
     }
 
--- A job that could not be begun was not carried.
+-- A job that couldn't be begun is not carried either.
 module _ (tells sinks : Bool) (a b : BenchState) (p : SinkState) (parts : JobParts) where
   unbegun : (w : Work) (r : Refusal) → IsTrue tells → w.surveyed ≡ w.job.snapshot → IsOf has_start (refused r)
       → BeginsAlone (bench_call tells a b) (sink_call sinks p p) [] w.job (refused r)
@@ -199,7 +199,7 @@ module _ (tells sinks : Bool) (a b : BenchState) (p : SinkState) (parts : JobPar
   begins_refused r told kind starts = over_as (bench_call tells a b) (sink_call sinks p p) parts.size (refused r)
       (λ are of. (of.0, of.1, unbegun (work_to New (job_of parts of.0) are.board are.algorithms of.0) r told refl kind of.2)) starts
 
--- The whole: a job was begun, and carried.
+-- The whole call: a job was begun, and then carried.
 module _ (tells sinks : Bool) (a b d : BenchState) (p r : SinkState) (parts : JobParts) (answer : Answer) (sized : parts.size ≡ a.cell_count)
     (count : b.cell_count ≡ a.cell_count) (many : length b.cells ≡ b.cell_count) (has : IsBegun a b parts)
     (from : GoesOnFrom New (bench_call tells b d) (sink_call sinks p r) answer) where

@@ -1,4 +1,4 @@
--- A job is carried: entered (a), opened (b), surveyed (m), finished (d).
+-- A job is carried: the call is entered at a, the job opened at b, the cells surveyed at m, and the work ended at d.
 use Rattle.std.proofs.Common.{◌≡◌, ◌⊎◌, ⊎_elim, inl, inr, refl, ◌≤◌, ◌+◌, arith, ◌++◌, ◌∙◌, ℕ, Bool, true, false, List, Option, None, sym, ap, subst}
 use Rattle.std.proofs.Common.{append_assoc}
 use Rattle.faults.specs.Counts.{Rose}
@@ -43,7 +43,7 @@ starts_on_path w broken = record {
 pub starts_outside : (w : Work) → IsOutsidePlanAsSurveyed w w.surveyed
 starts_outside w = record { long = refl; same = λ i out. refl }
 
--- An end before the script.
+-- A call that ends before the script.
 pub ends_early : (tells : Bool) (a x : BenchState) (out : SinkCall) (First : List ℕ → List ℕ → Type 0) (w : Work) (answer : Answer)
     → SameOutside a.operation a.cells w.surveyed → Comes (bench_call tells a x) out w nothing_broken answer → yields answer ≡ true
     → PairsLeave a x (λ f c. First f c ⊎ IsWhole (body w) f) → (off : BrokenOff a x w.surveyed)
@@ -67,7 +67,7 @@ ends_early tells a x out First w answer surveyed comes yield pairs off settled =
   complete = λ keeps. inr yield;
 }
 
--- An end before the plan, of a job that the file at entry stands for.
+-- A call that ends before the plans are printed, on the job that the file at entry stands for.
 module _ (tells sinks : Bool) (a x : BenchState) (p : SinkState) (w : Work) (whole : IsWhole (body w) a.file)
     (surveyed : SameOutside a.operation a.cells w.surveyed)
     (same : x.file ≡ a.file) (outside : SameOutside a.operation a.cells x.cells) (pairs : PairsLeave a x (λ f c. Left a f c ⊎ IsWhole (body w) f))
@@ -90,13 +90,13 @@ module _ (tells sinks : Bool) (a x : BenchState) (p : SinkState) (w : Work) (who
   no_device = ends_early tells a x (sink_call sinks p p) (Left a) w (refused device_fault) surveyed (inr (inl before_plan)) refl pairs off
       (inl (refl, nothing))
 
-  -- in the plan's text
+  -- the call ends while the plans are printed
   pub ends_in_plan : (q : SinkState) → x.cells ≡ w.surveyed → x.operation ≡ None → TookPart (sink_call sinks p q) (shown_plan w)
       → Carries (bench_call tells a x) (sink_call sinks p q) (Left a) w (refused output_fault)
   ends_in_plan q is idle part = ends_early tells a x (sink_call sinks p q) (Left a) w (refused output_fault) surveyed
       (inl (record { job = same ∙ whole; cells = is; idle = idle; prints = part })) refl pairs off (inr (off.ended idle))
 
--- the pairs up to the survey
+-- the pairs of file and cells that a stop leaves up to the survey
 pub opened : {a b : BenchState} (body : List ℕ) → PairsLeave a b (Left a) → PairsLeave a b (λ f c. Left a f c ⊎ IsWhole body f)
 opened {a} {b} body one = pairs_as (Left a) (λ f c. Left a f c ⊎ IsWhole body f) (λ f c at. inl at) one
 
@@ -105,7 +105,7 @@ pub looked : {a b m : BenchState} (body : List ℕ) → IsWhole body a.file → 
 looked {a} {b} {m} body whole only one two = pairs_then (λ f c. Left a f c ⊎ IsWhole body f) (opened body one)
     (pairs_as (Left b) (λ f c. Left a f c ⊎ IsWhole body f) (λ f c at. inr (only f at.0 ∙ whole)) two)
 
--- The plan is printed, and then the rest.
+-- The plans are printed, and then comes the rest.
 
 module _ (sinks : Bool) (p q r : SinkState) (text : List ℕ) (one : TookAll (sink_call sinks p q) text) where
   pub all_then : (rest : List ℕ) → TookAll (sink_call sinks q r) rest → TookAll (sink_call sinks p r) (text ++ rest)
@@ -126,7 +126,7 @@ module _ (sinks : Bool) (p q r : SinkState) (text : List ℕ) (one : TookAll (si
 
 module _ (tells sinks : Bool) (a m d : BenchState) (p q r : SinkState) (w : Work) (surveyed : SameOutside a.operation a.cells w.surveyed)
     (plan : TookAll (sink_call sinks p q) (shown_plan w)) where
-  -- what each answer of the rest is to the whole
+  -- each answer of the rest is one of the whole call
   comes_then : (broken : Broken) (answer : Answer) → FinishComes (bench_call tells m d) (sink_call sinks q r) w broken answer
       → Comes (bench_call tells a d) (sink_call sinks p r) w broken answer
   comes_then b done rest = (rest.0, all_then sinks p q r (shown_plan w) plan done_text rest.1)

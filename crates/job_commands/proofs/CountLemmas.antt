@@ -1,4 +1,4 @@
--- The counts of faults of a job's work. Each command tells by them whether a fault was counted.
+-- The counts of faults of the work on a job. By them each command knows whether a fault was counted.
 use Rattle.std.proofs.Common.{◌≡◌, ◌≤◌, ◌<◌, ◌∙◌, ⊎_elim, refl, sym, ap, subst, arith, ℕ, Bool, false, List, Option, Some, None, IfSome, IsSomeAnd, Ok, Err}
 use Rattle.std.proofs.lemmas.Bool.{cases_lt}
 use Rattle.faults.specs.Counts.{Rose}
@@ -28,7 +28,7 @@ use Rattle.command_files.proofs.AnswerLemmas.{unraised, never_input}
 use Rattle.job_commands.specs.Steps.{BenchCounted, begun}
 use Rattle.job_commands.specs.Refused.{of_session, of_survey, of_begin}
 
--- the work after the files, of a command that may take some
+-- the work after the files were taken, of a command that may take files
 pub worked_lawful : (bench : BenchCall) (inputs : InputsCall) (out : SinkCall) (has its : Refusal → Bool) (names : List (List ℕ)) (answer : Answer)
     → IsOf has answer → IsOf its answer → ((name : List ℕ) → its (input_fault name) ≡ false) → NoneFailed inputs
     → BenchCounted bench out answer → StandsEarly on_job_file bench out answer → EndsLawfully on_job_file bench inputs out has names answer
@@ -64,7 +64,7 @@ counted_then first before after fault answer same one = record {
   answered = λ more. same_fault answer ∙ one.answered (omega (arith, same, more));
 }
 
--- a job was begun, and no fault was counted; then it was carried
+-- a job was begun without a counted fault, and then carried
 pub begun_counted : (tells : Bool) (a b d : BenchState) (out : SinkCall) (answer : Answer) → b.store_faults ≡ a.store_faults → b.device_faults ≡ a.device_faults
     → BenchCounted (bench_call tells b d) out answer → BenchCounted (bench_call tells a d) out (begun answer)
 begun_counted tells a b d out answer stores devices counts = record {
@@ -82,7 +82,7 @@ raised_here first before after fault answer same rose later is = record {
   answered = λ more. is;
 }
 
--- a job was begun, and no fault was counted; then a line was put, or it failed
+-- a job was begun without a counted fault; then a line was put, or the output failed
 module _ (tells sinks : Bool) (a b : BenchState) (p r : SinkState) (one : BenchCounted (bench_call tells a b) (sink_call sinks p p) done) where
   pub put_counted : r.faults ≡ p.faults → BenchCounted (bench_call tells a b) (sink_call sinks p r) done
   put_counted same = record {
@@ -103,7 +103,7 @@ module _ (tells sinks : Bool) (a b : BenchState) (p r : SinkState) (one : BenchC
         out_count = raised_here p.faults p.faults r.faults output answer refl rose later refl;
       }
 
--- a session was opened, and no fault was counted
+-- a session was opened without a counted fault, and then came other calls
 pub counted_behind : (tells : Bool) (a b d : BenchState) (out : SinkCall) (answer : Answer) → b.store_faults ≡ a.store_faults
     → b.device_faults ≡ a.device_faults
     → BenchCounted (bench_call tells b d) out answer → BenchCounted (bench_call tells a d) out answer
@@ -203,7 +203,7 @@ none_counted tells sinks a b o stores devices = record {
   out_count = unraised o.faults o.faults output done refl (λ its. cc);
 }
 
--- the script was played, and no fault was counted; then the job couldn't be closed
+-- the script was played without a counted fault; then the job couldn't be closed
 pub unclosed_counted : (tells sinks : Bool) (a m b : BenchState) (o : SinkState) → m.store_faults ≡ a.store_faults → b.device_faults ≡ a.device_faults
     → Rose m.store_faults b.store_faults → m.store_faults ≤ b.store_faults
     → BenchCounted (bench_call tells a b) (sink_call sinks o o) (refused store_fault)
@@ -215,7 +215,7 @@ unclosed_counted tells sinks a m b o stores devices rose later =
       out_count = unraised o.faults o.faults output answer refl (λ its. let same : store ≡ output = cc in cc);
     }
 
--- A session was surveyed, and no fault was counted; then its plans were put.
+-- A session was surveyed without a counted fault; then its plans were put.
 module _ (tells sinks : Bool) (a m : BenchState) (o p : SinkState) (text : Surveyed → List ℕ) (P : Surveyed → Type 0) (stores : m.store_faults ≡ a.store_faults)
     (devices : m.device_faults ≡ a.device_faults) where
   pub cut_counted : (found : Option Surveyed) (e : OutputFault) → IsSomeAnd found P → IfSome found (λ v. Puts sinks o p (text v) (Err e))

@@ -1,4 +1,4 @@
--- A command on a job ends before any work: the bench and `out` weren't called.
+-- A command on a job ends before any work: neither the bench nor `out` was called.
 use Rattle.std.proofs.Common.{◌≡◌, ◌⊎◌, inl, inr, refl, ◌∙◌, sym, ℕ, Bool, true, false, List, length, Option}
 use Rattle.bench_model.specs.History.{left}
 use Rattle.bench_model.specs.State.{BenchState, file_half, cells_half, Left, SameOutside}
@@ -41,7 +41,7 @@ module _ (tells sinks : Bool) (b : BenchState) (o : SinkState) (many : length b.
   still : AsEntered b b
   still = entered b b exact (adds_nothing_here (cells_half b))
 
-  -- no call was made
+  -- nothing was broken off, because no call was made
   off : BrokenOff b b b.cells
   off = off_at_end b b b.cells (same_here b.operation refl) still refl exact
 
@@ -63,7 +63,7 @@ module _ (tells sinks : Bool) (b : BenchState) (o : SinkState) (many : length b.
     );
   }
 
-  -- a command that begins a job
+  -- a command that begins a job ends before any work
   over_here : {Known : Type 0} {Begins : Known → Type 0} (size : ℕ) (answer : Answer) → yields answer ≡ true → (is_of_free answer ≡ true → ⊥)
       → ((known : Known) → size ≡ b.cell_count → Begins known) → OverFile (bench_call tells b b) (sink_call sinks o o) size answer Known Begins
   over_here size answer yield other begins = record {
@@ -104,7 +104,7 @@ module _ (tells sinks : Bool) (b : BenchState) (o : SinkState) (many : length b.
       };
     }
 
-    -- `program` and `begin` before any work
+    -- `program` and `begin` end before any work
     pub program_unread : (r : Refusal) → IsEarly r → OverFile (bench_call tells b b) (sink_call sinks o o) (size_of aim.board.regions) (refused r)
         (HasTexts files aim)
         (λ has. Begins (bench_call tells b b) (sink_call sinks o o) files aim (refused r))

@@ -1,4 +1,4 @@
--- A session from its script on: entered (s), gone through its script (m), closed (d).
+-- The end of a session: the script begins at s and ends at m, and the job is closed at d.
 use Rattle.std.proofs.Common.{◌≡◌, ⊎_elim, inl, inr, refl, ◌+◌, ◌∙◌, ℕ, Bool, false, IsTrue, List, [], ◌∷◌, drop, Option, Some, None, IfSome, IsSome, IsSomeAnd}
 use Rattle.std.proofs.Common.{is_some, sym, ap, subst, arith, true}
 use Rattle.std.proofs.lemmas.Bool.{false≢true}
@@ -55,7 +55,7 @@ pub closed_as : (m d : BenchState) (k j : code.Job) (o q : Option Surveyed) → 
 closed_as m d k j o q is same close = subst (λ (i : code.Job). IfSome q (ClosePairs m d i)) is
     (subst (λ (x : Option Surveyed). IfSome x (ClosePairs m d k)) same close)
 
--- the file goes on meanwhile
+-- a close continues the history of the file
 pub closed_goes : (m d : BenchState) (k : code.Job) (o : Option Surveyed) → IsSome o → IfSome o (ClosePairs m d k) → GoesOn (file_half m) (file_half d)
 closed_goes m d k None some close = absurd (false≢true some)
 closed_goes m d k (Some v) some close = close.files
@@ -63,7 +63,7 @@ closed_goes m d k (Some v) some close = close.files
 pub nothing_broken : Broken
 nothing_broken = record { legs = []; last = [] }
 
--- Of any work: each end, by what went before.
+-- Each end of any work, by what came before it.
 
 module _ (tells : Bool) (w : Work) (s m : BenchState) (out : SinkCall) (answer : Answer) (whole : IsWhole (body w) s.file)
     (only : LeftOnly s.file (file_half s))
@@ -88,7 +88,7 @@ module _ (tells : Bool) (w : Work) (s m : BenchState) (out : SinkCall) (answer :
     complete = complete;
   }
 
-  -- through a close the cells are as they were
+  -- a close leaves the cells as they were
   on_through : (d : BenchState) (P : List ℕ → Type 0) → CellsStay m d → Leaves (cells_half s) (cells_half m) P → Leaves (cells_half s) (cells_half d) P
   on_through d P cells first = leaves_then P first (stays_leaves P (leaves_left P first) cells.half)
 
@@ -110,7 +110,7 @@ module _ (tells : Bool) (w : Work) (s m : BenchState) (out : SinkCall) (answer :
     complete = complete;
   }
 
--- Of the work of a session.
+-- Each end of the work of a session.
 
 module _ (tells : Bool) (told : IsTrue tells) (j : code.Job) (goal : Goal) (text : Job) (image : text.image ≡ j.image) (file : List ℕ)
     (snapshot : text.snapshot ≡ snapshot_in j file) (cells : List ℕ) where
@@ -180,7 +180,7 @@ module _ (tells sinks : Bool) (told : IsTrue tells) (j : code.Job) (goal : Goal)
   job_stays : IsWhole (body w) m.file
   job_stays = stay.file told ∙ stands.whole
 
-  -- each stop of the script leaves what lies outside the chosen plans
+  -- each stop of the script leaves the cells outside the chosen plans as surveyed
   local_from : (q : Option Surveyed) → IsSomeAnd q (λ v. HasSurveyed tells j goal s.file s.cells v)
       → IfSome q (λ v. IsAsSurveyed tells j s v → Leaves (cells_half s) (cells_half m) (SameBut (IsInPlans 0 v.regions) s.cells))
       → Leaves (cells_half s) (cells_half m) (IsOutsidePlanAsSurveyed w)
@@ -190,7 +190,7 @@ module _ (tells sinks : Bool) (told : IsTrue tells) (j : code.Job) (goal : Goal)
       (plans_are tells told j goal stands.text stands.image s.file stands.snapshot s.cells v some)
       (local (as_surveyed tells told j goal stands.text stands.image s.file stands.snapshot s.cells v some))
 
-  -- an end that doesn't come
+  -- an end that can't come
   unfailing : (q : Option Surveyed) → IsSomeAnd q (λ v. HasSurveyed tells j goal s.file s.cells v)
       → IfSome q (λ v. IsAsSurveyed tells j s v → false ≡ false → false ≡ false → ⊥) → ⊥
   unfailing None some fails = some
@@ -231,7 +231,7 @@ module _ (tells sinks : Bool) (told : IsTrue tells) (j : code.Job) (goal : Goal)
         ends_in_script tells w s m (sink_call sinks p p) (refused store_fault) stands.whole only stay f.broken (inl (job_stays, f.ends), nothing) f.moments
         its_local (λ serves. inr refl)
 
-    -- The goal is reached, and the job is closed or was to be.
+    -- The goal is reached, and the job is closed, or its close failed.
     module _ (d : BenchState) (r : Reached) (goes : IfSome o (λ v. Goes j v (end.Reached r) s m)) (idle : m.operation ≡ None) (cells : CellsStay m d)
         (close : IfSome o (λ v. PairsLeave m d (λ f c. IsWholeOrClosed (drop 1 m.file) f × (c ≡ goal_in j v.goal m.file)))) where
       abbrev f : Followed (end.Reached r)

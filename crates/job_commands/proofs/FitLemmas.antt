@@ -1,4 +1,4 @@
--- How many algorithms a job has. As many as its board has regions: for the lines of plans.
+-- A job has as many algorithms as its board has regions, as the lines of its plans need it.
 use Rattle.std.proofs.Common.{◌≡◌, ◌≤◌, ◌<◌, ◌∙◌, ap, suc, arith, refl, List, [], ◌∷◌, length}
 use Rattle.board_file.specs.Shown as board
 use Rattle.flm_descriptor.specs.declared.algorithm.Algorithm.{Algorithm}
@@ -10,7 +10,7 @@ pub shown_length : (algorithms : List Algorithm) → length (algorithms_shown al
 shown_length [] = refl
 shown_length (a ∷ rest) = ap suc (shown_length rest)
 
--- one for each region
+-- there is one algorithm for each region
 pub as_many_regions : (j : Job) → length j.board.regions ≡ length j.algorithms
 as_many_regions j = same_count (board.shown j.board) j.board.regions (algorithms_shown j.algorithms) j.fit ∙ shown_length j.algorithms
 

@@ -1,4 +1,4 @@
--- The end of `resume` and `revert`. The top call takes it as the answer of both.
+-- The end of `resume` and `revert`, as the top call uses it.
 use Rattle.std.proofs.Common.{◌≡◌, refl, ℕ, Bool, IsTrue, List, [], length}
 use Rattle.bench_model.specs.History.{left}
 use Rattle.bench_model.specs.State.{BenchState, cells_half, SameOutside}

@@ -1,4 +1,4 @@
--- Which refusals a step has. A command refuses as its steps do, and has no other refusal.
+-- Which refusals each step has: a command has the refusals of its steps, and no other.
 use Rattle.std.proofs.Common.{◌≡◌, refl, true, ℕ}
 use Rattle.std.proofs.lemmas.Bool.{false≢true}
 use Rattle.bench_model.specs.Counted.{is_store_fault}
@@ -40,7 +40,7 @@ script_stands bench out (refused (call_failed number call end)) kind = tt
 script_stands bench out (refused (mismatch at wanted found)) kind = tt
 script_stands bench out (refused r) kind = absurd (cc)
 
--- a refusal before the script names no bytes, and numbers of cells that differ
+-- a refusal before the script is sound: its hashes, or its numbers of cells, differ
 pub session_sound : (count : ℕ) (fault : SessionFault) → IsSoundSession count fault → IsSound (refused (of_session fault))
 session_sound count (session.Open (opening.Damaged kept found)) sound = sound
 session_sound count (session.Open (opening.CellsDiffer said found)) sound = sound.1
@@ -77,13 +77,13 @@ pub begin_kind : (fault : BeginFault) → IsOf has_start (refused (of_begin faul
 begin_kind beginning.OutOfMemory = refl
 begin_kind fault = refl
 
--- an answer after a job was begun
+-- an answer of the work that follows, after a job was begun
 pub begun_kind : (answer : Answer) → IsOf has_resume answer → IsOf has_work (begun answer)
 begun_kind done kind = tt
 begun_kind (refused out_of_memory) kind = refl
 begun_kind (refused r) kind = cc
 
--- a refusal of the beginning is one of what follows
+-- a refusal of the beginning is one of a step that begins a job and prints that it did
 pub start_alone : (r : Refusal) → IsOf has_start (refused r) → IsOf has_alone (refused r)
 start_alone output_fault kind = refl
 start_alone r kind = kind
@@ -117,7 +117,7 @@ pub begin_of_program : (r : Refusal) → has_begin r ≡ true → has_program r 
 begin_of_program out_of_memory is = refl
 begin_of_program r is = cc
 
--- the fault of the job file, and no other, is answered as that
+-- the fault of the job file is answered as `store_fault`
 pub session_file_fault : (fault : SessionFault) → is_store_fault (session_fault fault) ≡ true → of_session fault ≡ store_fault
 session_file_fault session.OutOfMemory is = absurd (false≢true is)
 session_file_fault (session.Open opening.StoreFault) is = refl

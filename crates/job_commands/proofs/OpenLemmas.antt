@@ -1,4 +1,4 @@
--- What the class of the file at entry says of the answer.
+-- What the class of the file at entry means for the answer.
 use Rattle.std.proofs.Common.{◌≡◌, ◌⊎◌, inl, inr, refl, ◌∙◌, ℕ, Bool, true, List, Err, sym, ap, subst}
 use Rattle.outside_io.specs.State.{SinkState}
 use Rattle.bench_model.specs.State.{BenchState, Left, SameOutside}
@@ -68,7 +68,7 @@ module _ (tells sinks : Bool) (a b : BenchState) (p : SinkState) (goal : Goal) w
   open_stands fault reads = only_looked reads
 
   module _ (file : b.file ≡ a.file) (same : SameOutside a.operation a.cells b.cells) (pairs : PairsLeave a b (Left a)) (off : BrokenOff a b b.cells) where
-    -- one that comes of any file, which was only looked at
+    -- a refusal that may come with any file, where file and cells were only looked at
     looked : (r : Refusal) → yields (refused r) ≡ true → OnlyReads tells a b
         → ((job : Job) (c : board.Shown) (xs : List flm.Shown) → IsWhole (body_of job) a.file
         → Carries (bench_call tells a b) (sink_call sinks p p) (Left a) (work_to goal job c xs b.cells) (refused r))
@@ -130,7 +130,7 @@ module _ (tells sinks : Bool) (a b : BenchState) (p : SinkState) (goal : Goal) w
           absurd (is.differ (is.said_is ∙ ap (λ (y : board.Shown). size_of y.regions) one.board ∙ size ∙ sym is.found_is));
     }
 
--- a survey that could not be made
+-- a survey that failed ends the work
 pub refuses_survey : (tells sinks : Bool) (a m : BenchState) (p : SinkState) (w : Work) → IsWhole (body w) a.file → SameOutside a.operation a.cells w.surveyed
     → m.file ≡ a.file
     → SameOutside a.operation a.cells m.cells → PairsLeave a m (λ f c. Left a f c ⊎ IsWhole (body w) f) → BrokenOff a m w.surveyed

@@ -1,4 +1,4 @@
--- What the work on a job prints, by its steps. What stands on `out` when a command ends, step by step.
+-- What the work on a job prints, step by step up to the end of a command.
 use Rattle.std.proofs.Common.{◌≡◌, ◌≤◌, ◌<◌, ◌+◌, ◌^◌, ◌++◌, ◌==◌, ◌∙◌, inl, inr, refl, sym, ap, subst, arith, append-nil, ℕ, zero, suc, Bool, true, false}
 use Rattle.std.proofs.Common.{List, [], ◌∷◌, length, get_or, sum_by, Option, Some, None, IfSome, IsSome, IsSomeAnd, Result, Ok, Err, IsErr}
 use Rattle.std.proofs.lemmas.Bool.{and_parts, eqb-true}
@@ -41,7 +41,7 @@ use Rattle.job_commands.specs.Begin.{PrintsBegun}
 use Rattle.job_commands.proofs.CarryLemmas.{all_then, nothing_then, part_then}
 use Rattle.job_commands.proofs.FitLemmas.{shown_length, some_algorithm, few_algorithms}
 
--- Before the plan.
+-- Before the plans are printed.
 
 pub session_prints : (count : ℕ) (out : SinkCall) (fault : SessionFault) → TookNothing out → PrintsWork count out (refused (of_session fault))
 session_prints count out (session.Open opening.StoreFault) none = inl none
@@ -98,7 +98,7 @@ are_chosen tells b region (a ∷ rest) cells goal (p ∷ more) are = (
 )
 are_chosen tells b region algorithms cells goal plans are = absurd are
 
--- they have as many cells as the regions
+-- the plans have as many cells as the regions together
 fill : (b : board.Shown) (regions : List Region) (algorithms : List flm.Shown) (plans : List Planned) → ArePlansFor algorithms plans
     → all_fit b regions algorithms ≡ true
     → sum_by (λ (p : Planned). p.layout.size) plans ≡ size_of regions
@@ -178,7 +178,7 @@ module _ (sinks tells : Bool) (j : code.Job) (goal : Goal) (file cells : List �
 
 -- ---- how the plans are put
 
--- the plan of a region, whose algorithm is given
+-- the plan of a region with this algorithm
 plan_at : (algorithms : List Algorithm) (plans : List Planned) (region : ℕ) (a : Algorithm) (other : Planned) → ArePlansFor (algorithms_shown algorithms) plans
     → region < length algorithms → a ≡ get_or algorithms region a → IsPlanFor (flm.shown a) (get_or plans region other)
 plan_at [] plans region a other are less is = absurd (omega (arith, less))
@@ -209,7 +209,7 @@ module _ (algorithms : List Algorithm) (region : ℕ) (a : Algorithm) (less : re
       ∙ ap (λ (n : ℕ). plan_text (get_or v.regions region other).layout n plan) (sym its.base)
       ∙ ap (λ (c : Chosen). plan_text (get_or v.regions region other).layout (get_or v.regions region other).base c) (plans other)
 
--- what is put of a plan is put of each that has its text
+-- a text that was put is the text of each plan that has this text
 pub put_text : (tells : Bool) (p q : SinkState) (text : List ℕ) (result : Result (Unit {0}) OutputFault) (o : Option Surveyed)
     (Of : Surveyed → Planned → List ℕ)
     → IfSome o (λ v. (other : Planned) → text ≡ Of v other) → Puts tells p q text result
@@ -223,7 +223,7 @@ pub base_text : (algorithms : List Algorithm) (region : ℕ) (a : Algorithm) →
 base_text algorithms region a less is None are = tt
 base_text algorithms region a less is (Some v) are = λ other. ap region_text (sym (plan_at algorithms v.regions region a other are less is).base)
 
--- the text of one region or two
+-- the texts of the plans of one region, or of two
 one_shown : (plans : List Planned) (other : Planned) → length plans ≡ 1 → (shown_region (get_or plans 0 other)).1 ≡ plans_shown plans
 one_shown (p ∷ []) other one = refl
 one_shown plans other one = absurd (omega (arith, one))

@@ -1,4 +1,4 @@
--- From the steps of `program` and `begin` to their ends. Each step that may end them has its lemma.
+-- From the steps of `program` and `begin` to their ends, with a lemma for each step that may end them.
 use Rattle.std.proofs.Common.{◌≡◌, ◌≢◌, ◌≤◌, ◌⊎◌, ⊎_elim, ◌∙◌, inl, inr, refl, sym, subst, ℕ, Bool, true, false, IsTrue, List, length, Option, option_copied}
 use Rattle.std.proofs.Common.{None}
 use Rattle.std.specs.Option.{ForSome}
@@ -40,7 +40,7 @@ use Rattle.job_commands.proofs.KindLemmas.{program_kind, begin_command, alone_wo
 use Rattle.job_commands.proofs.EntryLemmas.{IsEarly, program_unread, begin_unread}
 use Rattle.job_commands.proofs.RegionLemmas.{said_parts, flms_are}
 
--- Before any work, of each command that has the refusals of `begin`.
+-- A command with the refusals of `begin` ends before any work.
 module _ (has : Refusal → Bool) (Prints : ℕ → SinkCall → Answer → Type 0) (Goes : BenchCall → SinkCall → FilesGiven → Aim → Answer → Type 0)
     (all : (r : Refusal) → has_begin r ≡ true → has r ≡ true) (tells sinks : Bool) (b : BenchState) (o : SinkState) (inputs : InputsCall)
     (asked : FilesAsked) where
@@ -130,7 +130,7 @@ module _ (tells sinks : Bool) (b : BenchState) (o : SinkState) (inputs : InputsC
       → BeginEnds asked (bench_call tells b b) inputs (sink_call sinks o o) (refused r)
   begin_early r is = ends_early has_begin PrintsBegun Starts (λ r its. its) tells sinks b o inputs asked unread_begin r is
 
--- What began with the parts that files of a target make began with its files.
+-- A job that was begun from the parts is the job of the files that the parts come from.
 module _ (bench : BenchCall) (out : SinkCall) (answer : Answer) (files : FilesGiven) (aim : Aim) (parts : JobParts) (are : AreParts parts)
     (board_is : files.board ≡ parts.board.now) (flms_are : flms_of parts ≡ flm_files files.flm files.images aim.board) (image_is : aim.image ≡ parts.image.now)
     (size_is : size_of aim.board.regions ≡ parts.size) (board_says : are.board ≡ aim.board) (algorithms_say : are.algorithms ≡ aim.algorithms) where
@@ -208,7 +208,7 @@ module _ (bench : BenchCall) (out : SinkCall) (answer : Answer) (raw_at : Option
       (is.board_text ∙ sym board_is) (flms_are raw_at files said is short_board short_flm short_second parts board_is flm_is second_is image_is size_is)
       (sym image_is) (sym size_is) refl refl starts
 
--- The work on files that are right.
+-- The work of a command whose files are right.
 module _ (bench : BenchCall) (inputs : InputsCall) (out : SinkCall) (asked : FilesAsked) (files : FilesGiven) (aim : Aim) (are : AreFiles inputs asked files)
     (is : IsAim asked.raw_at files aim) where
   module _ (Holds : FilesGiven → Aim → Type 0) where

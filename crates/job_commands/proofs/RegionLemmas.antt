@@ -1,4 +1,4 @@
--- What a command's files want, as the parts of a job have it.
+-- What a command's files want, in terms of the parts of a job.
 use Rattle.std.proofs.Common.{◌≡◌, ◌≢◌, ◌⊎◌, ◌<◌, ◌≤◌, ◌+◌, ◌-◌, ◌^◌, ◌||◌, ◌∙◌, ⊎_elim, inl, inr, sym, ap, subst, refl, arith, ℕ, suc, Bool, IsTrue, IsSome}
 use Rattle.std.proofs.Common.{All, List, [], ◌∷◌, ◌++◌, length, take, Option, option_to_list, option_copied, Some, None}
 use Rattle.std.specs.List.{list_any}
@@ -33,7 +33,7 @@ is_held : (o : Option ℕ) (byte : ℕ) → o ≡ Some byte → IsSome o
 is_held None byte is = absurd (cc)
 is_held (Some x) byte is = refl
 
--- an address in the range of a region is held by it
+-- an address lies in the range of a region exactly if the region holds it
 pub in_some : (regions : List Region) (a : ℕ) → is_inside (ranges_of regions) a ≡ list_any (λ (region : Region). holds region a) regions
 in_some [] a = refl
 in_some (r ∷ rs) a = ap (λ (b : Bool). holds r a || b) (in_some rs a)
@@ -83,7 +83,7 @@ say_all b [] (f ∷ fs) xs are = absurd (none xs are) where
 say_all b (r ∷ rs) (f ∷ fs) [] are = absurd are
 say_all b (r ∷ rs) (f ∷ fs) (x ∷ xs) are = (are.0.says, say_all b rs fs xs are.1)
 
--- a board for whose regions there are files has a region
+-- a board with an FLM file for each region has a region
 some_region : (b : board.Shown) (regions : List Region) (file : List ℕ) (files : List (List ℕ)) (algorithms : List flm.Shown)
     → AreFor b regions (file ∷ files) algorithms
     → 1 ≤ length regions
@@ -107,7 +107,7 @@ all_files b (Some file) others algorithms some enough are =
 one_or_two : (n : ℕ) → 1 ≤ n → n ≤ 2 → (n ≡ 1) ⊎ (n ≡ 2)
 one_or_two n some few = ⊎_elim (λ (less : n < 2). inl (omega (arith, less, some))) (λ (more : 2 ≤ n). inr (omega (arith, more, few))) (cases_lt n 2)
 
--- a text that is no longer than a file that can be taken has a length of 32 bits, and so has none
+-- a text that can be taken has a length that fits 32 bits, and so has a missing text
 pub short_len : (files : List (List ℕ)) (k : ℕ) → All (λ (file : List ℕ). length file ≤ 67108864) files → flm_len files k < 2 ^ 32
 short_len files k short = ⊎_elim
     (λ (less : k < length files). omega (arith, short k [] less))
@@ -121,7 +121,7 @@ module _ (raw_at : Option ℕ) (files : FilesGiven) (aim : Aim) (is : IsAim raw_
   are_all : AreAll aim.board flms
   are_all = all_files aim.board files.flm files.images aim.algorithms some (is.are_read.board.enough some) is.are_read.algorithms
 
-  -- what the files want suits a job
+  -- what the files want suits one another, as in a job
   pub aim_suits : Suits aim.board aim.algorithms aim.image
   aim_suits =
       let images = image_files files.flm files.images aim.board in
@@ -139,7 +139,7 @@ module _ (raw_at : Option ℕ) (files : FilesGiven) (aim : Aim) (is : IsAim raw_
   few_files = one_or_two (length flms) (omega (arith, are_all.some, are_all.count))
       (omega (arith, are_all.count, at_most_two files.board aim.board is.are_read.board.is_board))
 
--- with a snapshot of the size they make a job
+-- what the files want makes a job, with any snapshot of the size
 pub aim_job : (raw_at : Option ℕ) (files : FilesGiven) (aim : Aim) (has : HasTexts files aim) (snapshot : List ℕ) → IsAim raw_at files aim
     → length snapshot ≡ size_of aim.board.regions → IsJob (job_for files aim snapshot) aim.board aim.algorithms
 aim_job raw_at files aim has snapshot is many = record {
@@ -182,7 +182,7 @@ module _ (raw_at : Option ℕ) (files : FilesGiven) (said : TargetFiles) (is : A
   short_flms = subst (λ (l : List (List ℕ)). All (λ (file : List ℕ). length file ≤ 67108864) l) (sym is.flms)
       (both_short said.flm said.second short_flm short_second)
 
-  -- it has the texts of a job
+  -- the texts of the files are short enough to be taken
   pub said_texts : HasTexts files aim
   said_texts = record { has_flm = some; short_board = omega (arith, short_board, ap (λ (l : List ℕ). length l) is.board_text); short_flms = short_flms }
 
@@ -196,7 +196,7 @@ module _ (raw_at : Option ℕ) (files : FilesGiven) (said : TargetFiles) (is : A
     pub short : All (λ (file : List ℕ). length file ≤ 67108864) (flms_of parts)
     short = subst (λ (l : List (List ℕ)). All (λ (file : List ℕ). length file ≤ 67108864) l) (sym flms_are) short_flms
 
-    -- What they say makes the parts of a job.
+    -- The texts of the files make the parts of a job.
     abbrev pub said_parts : AreParts parts
     said_parts = record {
       board = aim.board;

@@ -1,4 +1,4 @@
--- A job is begun (a to b), by a call of the job file. `start` is the same for both commands that begin a job.
+-- A job is begun (a to b) by a call of the job file, in the same way for both commands that begin a job.
 use Rattle.std.proofs.Common.{◌≡◌, ◌⊎◌, ⊎_elim, inl, inr, refl, ◌∙◌, append-nil, ℕ, Bool, true, List, [], ◌∷◌, length, IsTrue, None, Err, sym, ap, subst}
 use Rattle.outside_io.specs.State.{SinkState}
 use Rattle.bench_model.specs.History.{left, Leaves, LeftOnly}
@@ -33,7 +33,7 @@ use Rattle.job_commands.specs.Steps.{has_start, StartsParts}
 use Rattle.job_commands.specs.Refused.{of_begin}
 use Rattle.job_commands.proofs.CarryLemmas.{AsEntered}
 
--- the pairs of `begin`
+-- the pairs of file and cells that a stop in `begin` leaves
 pub begun_pairs : {a b : BenchState} (text : List ℕ) → Leaves (file_half a) (file_half b) (IsOfBegin (file_half a) text) → AsEntered a b
     → PairsLeave a b (λ f c. IsUntouched a f c ⊎ IsWhole text f)
 begun_pairs {a} {b} text files cells = pairs_of (IsOfBegin (file_half a) text) (λ c. SameOutside a.operation a.cells c)
@@ -46,7 +46,7 @@ begun_pairs {a} {b} text files cells = pairs_of (IsOfBegin (file_half a) text) (
     other)
     of)
 
--- Over a free file of the right size, what comes of a job is all that is to be shown.
+-- Over a free file of the right size, it is enough to show what comes of the job.
 pub over_free : {Known : Type 0} {Begins : Known → Type 0} (bench : BenchCall) (out : SinkCall) (size : ℕ) (answer : Answer) → IsFree bench.before.file
     → size ≡ bench.before.cell_count → ((known : Known) → Begins known) → OverFile bench out size answer Known Begins
 over_free bench out size answer is_free sized begins = record {
@@ -58,7 +58,7 @@ over_free bench out size answer is_free sized begins = record {
   begins = λ known free_too same. begins known;
 }
 
--- A job that could not be begun.
+-- A job couldn't be begun.
 module _ (tells sinks : Bool) (a b : BenchState) (p : SinkState) (parts : JobParts) where
   nothing : TookNothing (sink_call sinks p p)
   nothing = record { taken = refl; faults = refl }
@@ -178,7 +178,7 @@ module _ (tells sinks : Bool) (a b : BenchState) (p : SinkState) (parts : JobPar
           record { taken = λ t. sym (append-nil p.taken); faults = refl },
         )) are is_free sized)
 
--- with the same answer, by what comes of a job
+-- an answer over the same file, with another claim on the job that is begun
 pub over_as : {Known : Type 0} {One Two : Known → Type 0} (bench : BenchCall) (out : SinkCall) (size : ℕ) (answer : Answer)
     → ((known : Known) → One known → Two known)
     → OverFile bench out size answer Known One → OverFile bench out size answer Known Two

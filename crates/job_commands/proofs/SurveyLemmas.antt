@@ -1,4 +1,4 @@
--- A session that was opened (a to b), and then surveyed or to be surveyed (b to m).
+-- A session was opened (a to b); then it was surveyed, or its survey failed (b to m).
 use Rattle.std.proofs.Common.{◌≡◌, ◌⊎◌, ◌∙◌, refl, sym, ap, subst, ℕ, Bool, IsTrue, List, ◌∷◌, drop, Option, Some, None, IfSome, IsSomeAnd, Result, Ok, Err}
 use Rattle.outside_io.specs.State.{SinkState}
 use Rattle.bench_model.specs.History.{left}
@@ -46,7 +46,7 @@ module _ (tells sinks : Bool) (told : IsTrue tells) (a b m : BenchState) (goal :
   its_pairs : PairsLeave a m (λ f c. Left a f c ⊎ IsWhole (body w) f)
   its_pairs = looked (body w) was.stands.whole was.only was.pairs pairs
 
-  -- from b on the cells stand still
+  -- the operation was broken off at b at the latest: from b on the cells stay the same
   off : BrokenOff a m m.cells
   off = off_from a m m.cells outside (entered a m was.exact (adds_nothing_then was.halves reads.cells.moments)) b (entered a b was.exact was.halves)
       (leaves_as (left (cells_half b)) (λ c. c ≡ m.cells)
@@ -60,7 +60,7 @@ module _ (tells sinks : Bool) (told : IsTrue tells) (a b m : BenchState) (goal :
   unsurveyed p fault = only_stands tells a m (sink_call sinks p p) goal (refused (of_survey fault)) (some_job j a.file was.stands) was.sized m.cells
       (refuses_survey tells sinks a m p w was.stands.whole outside file_is outside its_pairs off fault)
 
-  -- It found this.
+  -- The survey found `o`.
   module _ (o : Option Surveyed) (found : IsSomeAnd o (λ v. HasSurveyed tells j goal b.file b.cells v)) where
     pub found_here : IsSomeAnd o (λ v. HasSurveyed tells j goal m.file m.cells v)
     found_here = subst (λ (f : List ℕ). IsSomeAnd o (λ v. HasSurveyed tells j goal f m.cells v)) (sym (reads.file.file told))
@@ -85,7 +85,7 @@ module _ (tells sinks : Bool) (told : IsTrue tells) (a b m : BenchState) (goal :
         (ends_in_plan tells sinks a m p w was.stands.whole outside file_is outside its_pairs off q refl still_idle
         (record { taken = puts.err; later = puts.cause.later; rose = puts.cause.on_fault refl }))
 
-    -- what follows is of the same job
+    -- the rest of the work is on the same job
     finished_as : (k : code.Job) (d : BenchState) (out : SinkCall) (answer : Answer) → k ≡ j
         → ((s : StandsFor k m.file) → IsSomeAnd o (λ v. HasSurveyed tells k goal m.file m.cells v)
         → Finishes (bench_call tells m d) out (session_work goal k s.text m.cells) answer)

@@ -1,4 +1,4 @@
--- A stretch of moments before pairs, or cells, in turn. A command joins what a stop may leave of its steps by them.
+-- Stretches of moments before and after a turn: with them a command joins what a stop may leave in each of its steps.
 use Rattle.std.proofs.Common.{◌≡◌, ◌∙◌, ⊎_elim, refl, sym, subst, ◌≤◌, ◌<◌, ◌+◌, ℕ, List, Option, Some, None, arith}
 use Rattle.std.proofs.lemmas.Bool.{cases_lt}
 use Rattle.bench_model.specs.History.{left, Leaves}
@@ -52,7 +52,7 @@ same_here {b} {c} o is = subst (λ (x : List ℕ). SameOutside o b x) (sym is) (
 
 module _ (a x : BenchState) (surveyed : List ℕ) (same : SameOutside a.operation a.cells surveyed)
     (one : Leaves (cells_half a) (cells_half x) (λ c. SameOutside a.operation a.cells c)) where
-  -- none was open
+  -- no operation was open at entry
   off_idle : a.operation ≡ None → BrokenOff a x surveyed
   off_idle idle = record {
     turn = a.moment;
@@ -72,7 +72,7 @@ module _ (a x : BenchState) (surveyed : List ℕ) (same : SameOutside a.operatio
   other : {r : ℕ × ℕ} → a.operation ≡ Some r → a.operation ≡ None → ⊥
   other {r} some none = let e : Some r ≡ None = sym some ∙ none in cc
 
-  -- one was open up to b, where it was broken off
+  -- an operation was open up to b, and was broken off there
   off_open : (r : ℕ × ℕ) (b : BenchState) → a.operation ≡ Some r → Leaves (cells_half a) (cells_half b) (λ c. SameOutside a.operation a.cells c)
       → Leaves (cells_half b) (cells_half x) (λ c. c ≡ surveyed) → BrokenOff a x surveyed
   off_open r b some first later = record {
@@ -87,7 +87,7 @@ module _ (a x : BenchState) (surveyed : List ℕ) (same : SameOutside a.operatio
   off_by b first later None is = off_idle is
   off_by b first later (Some r) is = off_open r b is first later
 
-  -- it was broken off at b, or none was open
+  -- the operation was broken off at b, or none was open
   pub off_from : (b : BenchState) → Leaves (cells_half a) (cells_half b) (λ c. SameOutside a.operation a.cells c)
       → Leaves (cells_half b) (cells_half x) (λ c. c ≡ surveyed) → BrokenOff a x surveyed
   off_from b first later = off_by b first later a.operation refl
@@ -107,11 +107,11 @@ module _ (a x : BenchState) (surveyed : List ℕ) (same : SameOutside a.operatio
     off_of None is = off_idle is
     off_of (Some r) is = off_late r is x.operation refl
 
-    -- at x it is broken off, or still open
+    -- at x the operation is broken off, or still open
     pub off_at_end : BrokenOff a x surveyed
     off_at_end = off_of a.operation refl
 
--- the cells from there on, where they were as surveyed up to m
+-- the cells satisfy `P` from the turn on, where cells as surveyed satisfy it
 pub off_as : {a x : BenchState} {surveyed : List ℕ} (off : BrokenOff a x surveyed) (P : List ℕ → Type 0) → P surveyed
     → CellsInTurn a x off.turn (λ c. SameOutside a.operation a.cells c) P
 off_as {a} {x} {surveyed} off P start = record {

@@ -45,7 +45,7 @@ BegunComes bench out text job (refused output_fault) = HasBegun bench.after job 
 BegunComes bench out text job (refused _) = ⊥
 
 -- A job is begun, from entry to exit. The snapshot is the cells of the entry, after an operation open then was broken off; from there on
--- the cells stay so. A stop leaves the pair untouched, or its file whole.
+-- the cells stay as they are. A stop leaves the pair untouched, or its file whole.
 pub record BeginsAlone (bench : BenchCall) (out : SinkCall) (text : List ℕ) (job : Job) (answer : Answer) : Type 0 where
   pub surveyed : IsAsEntered bench job.snapshot
   pub comes : BegunComes bench out text job answer

@@ -60,7 +60,7 @@ pub record EndsInPlan (bench : BenchCall) (out : SinkCall) (w : Work) : Type 0 w
   pub idle : bench.after.operation ≡ None
   pub prints : TookPart out (shown_plan w)
 
--- The call ended in the script or at its end, in this way, with the plans printed.
+-- The call ended in the script or at its end, as `Way` says, with the plans printed.
 pub record EndsInScript (bench : BenchCall) (out : SinkCall) (w : Work) (Way : Type 0) : Type 0 where
   pub job : HasJob bench.after w
   pub prints : TookAll out (shown_plan w)

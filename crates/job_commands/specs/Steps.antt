@@ -49,7 +49,7 @@ has_start store_fault = true
 has_start device_fault = true
 has_start _ = false
 
--- the refusals of a step that begins a job and prints so
+-- the refusals of a step that begins a job and prints that it did
 abbrev pub has_alone : Refusal → Bool
 has_alone output_fault = true
 has_alone refusal = has_start refusal

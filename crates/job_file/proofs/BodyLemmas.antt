@@ -40,7 +40,7 @@ appends_then tells a b c x y u r one two = record {
   };
 }
 
--- a part that was not put, whatever was to be put in all
+-- where the append of a part fails, the append of the whole fails
 pub appends_fails : {T U : Type 0} (tells : Bool) (a b : BenchState) (x z : List ℕ) (e : StoreFault) → Appends {T = T} tells a b x (Err e)
     → Appends {T = U} tells a b z (Err e)
 appends_fails tells a b x z e one = record {
@@ -50,7 +50,7 @@ appends_fails tells a b x z e one = record {
   cause = record { later = one.cause.later; on_fault = λ fault. one.cause.on_fault refl; on_ok = λ ok. absurd cc };
 }
 
--- nothing is put
+-- no byte is appended
 pub appends_nothing : (tells : Bool) (s : BenchState) → Appends tells s s [] well
 appends_nothing tells s = record {
   ok = λ told. sym (append-nil s.file);
@@ -69,25 +69,25 @@ appends_as tells a b x y t u is one = record {
   cause = record { later = one.cause.later; on_fault = λ fault. absurd cc; on_ok = λ ok. one.cause.on_ok refl };
 }
 
--- where the file ends then
+-- where the file ends after an append
 pub appended_end : {T : Type 0} (tells : Bool) (a b : BenchState) (x : List ℕ) (t : T) (at next : ℕ) → Appends {T = T} tells a b x (Ok t)
     → (IsTrue tells → length a.file ≡ at) → next ≡ at + length x → IsTrue tells → length b.file ≡ next
 appended_end tells a b x t at next one ends is told = ap (λ (l : List ℕ). length l) (one.ok told) ∙ length-append a.file x ∙ omega (arith, ends told, is)
 
--- the write of a part
+-- a write from byte 1 on keeps the gate at each moment
 pub part_moments : (s t : BenchState) (at n : ℕ) → 1 ≤ at → Leaves (file_half s) (file_half t) (Follows (Torn at n) (file_half s))
     → Leaves (file_half s) (file_half t) (Follows KeepsGate (file_half s))
 part_moments s t at n some moments = leaves_as (Follows (Torn at n) (file_half s)) (Follows KeepsGate (file_half s))
     (λ f (d, was, torn). (d, was, gate_kept at n d f some torn)) moments
 
--- the gate stays closed
+-- a closed gate stays closed while calls keep it
 pub shut_by_parts : (s t : BenchState) → LeftOnly (0 ∷ []) (file_half s) → Leaves (file_half s) (file_half t) (Follows KeepsGate (file_half s))
     → Leaves (file_half s) (file_half t) IsShut
 shut_by_parts s t only moments = leaves_step KeepsGate IsShut (0 ∷ []) (0 ∷ []) only refl (λ f kept. kept) moments
 
 -- ---- the runs of an image
 
--- the text of runs is not much longer than the addresses among which they lie
+-- the text of maximal runs between `low` and `end` is at most five times as long as that range with one address more
 pub short_text : (low end : ℕ) (rs : List Run) → AreMaximal low end rs → length (flat_map run_text rs) ≤ 5 * (end + 1 - low)
 short_text low end [] m = omega arith
 short_text low end (r ∷ rs) m =
@@ -122,14 +122,14 @@ run_put tells start now then from at image put r next m lt is so_far one next_is
       bound = omega (arith, ends, short_front image (put + 1) m);
     }
 
--- bytes that are written at the end
+-- bytes that are written at the end of a file are appended
 pub written_end : (at : ℕ) (bytes old : List ℕ) → length old ≡ at → written at bytes old ≡ old ++ bytes
 written_end at bytes old end =
     let rest : drop (at + length bytes) old ≡ [] = drop_all (at + length bytes) old (omega (arith, end)) in
     ap (λ (l : List ℕ). l ++ bytes ++ drop (at + length bytes) old) (take_all at old (omega (arith, end))) ∙ ap (λ (l : List ℕ). old ++ bytes ++ l) rest
     ∙ append-nil (old ++ bytes)
 
--- a write there
+-- a write at the end of the file is an append
 pub written_part : {T : Type 0} (tells : Bool) (s t : BenchState) (at : ℕ) (bytes : List ℕ) (r : Result T StoreFault)
     → 1 ≤ at → (IsTrue tells → length s.file ≡ at) → WritesFile tells s t at bytes r → Appends tells s t bytes r
 written_part tells s t at bytes r some end does = record {

@@ -1,4 +1,4 @@
--- What the steps of `put_job` leave. So a stop at any of them leaves the file free or whole.
+-- What the steps of `put_job` leave: a stop at any of them leaves the file free or whole.
 use Rattle.std.proofs.Common.{◌≡◌, ◌≢◌, inl, inr, ◌≤◌, ◌+◌, ℕ, List, [], ◌∷◌, ◌++◌, length, take, refl, sym, ◌∙◌, ap, arith}
 use Rattle.std.proofs.lemmas.List.{drop_all, append-nil}
 use Rattle.std.proofs.lemmas.Bool.{cases_eq}
@@ -16,7 +16,7 @@ free_closed [] rest gate shut is = tt
 free_closed (b ∷ []) rest gate shut is = tt
 free_closed (b ∷ next ∷ f) rest gate shut is = let e : b ≡ gate = cc in λ same. shut (sym e ∙ same)
 
--- byte 0 of a file of at most one byte is written
+-- a torn write of byte 0 leaves a file of at most one byte free
 pub closing_free : (d f : List ℕ) → length d ≤ 1 → Torn 0 1 d f → IsFree f
 closing_free d f short torn = free_short f (omega (arith, torn.no_longer))
 
@@ -32,7 +32,7 @@ behind_free n f torn = free_closed f [] 0 (λ e. absurd (omega (arith, e))) torn
 pub behind : (body : List ℕ) → written 1 body (0 ∷ []) ≡ 0 ∷ body
 behind body = ap (λ (l : List ℕ). 0 ∷ body ++ l) (drop_all (1 + length body) (0 ∷ []) (omega arith)) ∙ append-nil (0 ∷ body)
 
--- the gate is opened
+-- a torn write that opens the gate leaves the file free or whole
 pub opening : (body f : List ℕ) → Torn 0 1 (0 ∷ body) f → IsFreeOrWhole body f
 opening body [] torn = inl tt
 opening body (gate ∷ f) torn = elim (cases_eq gate 165) [

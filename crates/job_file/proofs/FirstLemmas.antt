@@ -42,7 +42,7 @@ syncs_on {u = u} b acted does more = record {
   goes_on = more;
 }
 
--- more calls come after it, but where its sync failed
+-- more calls come after the first one, unless its sync failed
 pub syncs_then : {B : Type 0} {tells : Bool} {state : B → BenchState} {acts : B → Act → B → Type 0} {a b c : B} {F G : Type 0}
     → SyncsFirst tells state acts a b F → (F → (c ≡ b) × G) → (IsTrue tells → GoesOn (file_half (state b)) (file_half (state c)))
     → SyncsFirst tells state acts a c G
@@ -55,7 +55,7 @@ syncs_then one ends more = record {
   goes_on = λ told. on_ok_weaker one.result (λ on. goes_then on (more told)) (one.goes_on told);
 }
 
--- the fault is answered by another name
+-- the fault of the job file, under another name
 pub syncs_as : {B : Type 0} {tells : Bool} {state : B → BenchState} {acts : B → Act → B → Type 0} {a b : B} {F G : Type 0}
     → SyncsFirst tells state acts a b F → (F → G) → SyncsFirst tells state acts a b G
 syncs_as one ends = record {

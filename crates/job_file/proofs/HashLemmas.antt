@@ -1,4 +1,4 @@
--- A file is hashed window by window. `put_hashed` and `find_damage` hash so.
+-- A file is hashed window by window, as `put_hashed` and `find_damage` do it.
 use Rattle.std.proofs.Common.{◌≡◌, ◌≤◌, ◌<◌, ◌+◌, ◌-◌, ◌++◌, ◌∙◌, ℕ, List, Bool, true, false, not, ◌&&◌, nat_eq, leb, IsTrue, if◌then◌else◌, length, take, drop}
 use Rattle.std.proofs.Common.{Option, Some, None, Bor, refl, sym, ap, subst, arith}
 use Rattle.std.specs.Prelude.{bytes_eq, option_copied}
@@ -28,7 +28,7 @@ pub record HashedSoFar (tells : Bool) (start now : BenchState) (count at : ℕ) 
   pub reads : OnlyReads tells start now
   pub faults : now.store_faults ≡ start.store_faults
 
--- a window more
+-- one more window is hashed
 pub window_hashed : (file now : List ℕ) (old new : Sha256) (at end n : ℕ) → at ≤ end → n ≡ end - at → now ≡ file → Holds256 old (take at (drop 40 file))
     → ((m : List ℕ) → Holds256 old m → Holds256 new (m ++ take n (drop (40 + at) now))) → Holds256 new (take end (drop 40 file))
 window_hashed file now old new at end n le size same holds more =
@@ -43,7 +43,7 @@ window_hashed file now old new at end n le size same holds more =
 
 -- ---- the format by its mark
 
--- a body too short for a mark
+-- a body too short for a mark is read as the first format
 pub short_format : (body : List ℕ) → length body < 7 → format_in body ≡ First
 short_format body short = by_mark (is_second body) refl
   where
@@ -53,7 +53,7 @@ short_format body short = by_mark (is_second body) refl
         absurd (omega (arith, short, ap (λ (l : List ℕ). length l) same, length-take 7 body))
     by_mark false is = ap (λ (b : Bool). if b then Second else First) is
 
--- the mark is in the first bytes
+-- the first seven bytes of a body decide its format
 pub front_format : (body : List ℕ) → format_in (take 7 body) ≡ format_in body
 front_format body = ap (λ (l : List ℕ). if pointwise nat_eq second_mark l then Second else First) (take-take 7 7 body (omega arith))
 
@@ -66,7 +66,7 @@ second_by body is = by_mark (is_second body) is
 
 -- ---- damage
 
--- a body of the first format isn't damaged, and neither is one too short for a head
+-- a body of the first format isn't damaged, and a body too short for a head isn't either
 pub first_intact : (body : List ℕ) → format_in body ≡ First → is_damaged body ≡ false
 first_intact body is = by_length (leb 63 (length body)) (by_mark (is_second body) is)
   where
@@ -84,7 +84,7 @@ first_intact body is = by_length (leb 63 (length body)) (by_mark (is_second body
 pub short_intact : (body : List ℕ) → length body < 63 → is_damaged body ≡ false
 short_intact body short = ap (λ (b : Bool). (b && is_second body) && not (bytes_eq (kept_in body) (found_in body))) (lt-leb 63 (length body) short)
 
--- what the hashes say
+-- a body of the second format with a whole head is damaged exactly if its two hashes differ
 hashes_say : (body kept found : List ℕ) (b : Bool) → 63 ≤ length body → is_second body ≡ true → kept ≡ kept_in body → found ≡ found_in body
     → bytes_eq kept found ≡ b → is_damaged body ≡ not b
 hashes_say body kept found b long second kept_is found_is is =

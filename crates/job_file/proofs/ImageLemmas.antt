@@ -36,7 +36,7 @@ pub record LaidSoFar (tells : Bool) (start now : BenchState) (from place len at 
   pub reads : OnlyReads tells start now
   pub faults : now.store_faults ≡ start.store_faults
 
--- a window more
+-- one more window of a run is added
 pub window_more : (old now new : List Run) (place at len : ℕ) (bytes piece : List ℕ) → AreMaximal 0 (2 ^ 32) old → EndBelow place old → 1 ≤ length piece
     → length bytes ≡ at → at + length piece ≤ len → place + len ≤ 2 ^ 32
     → now ≡ with_run old place bytes → Lays (run_of (place + at) piece) now new → new ≡ with_run old place (bytes ++ piece)
@@ -62,7 +62,7 @@ behind_window old now place at bytes below long is =
     subst (λ (rs : List Run). EndBy (place + at) rs) (sym is)
     (subst (λ (n : ℕ). EndBy (place + n) (with_run old place bytes)) long (with_run_ends old place bytes below))
 
--- some bytes are a run
+-- bytes that aren't empty are a run
 run_there : (old : List Run) (place : ℕ) (bytes : List ℕ) → 1 ≤ length bytes → with_run old place bytes ≡ old ++ run_of place bytes ∷ []
 run_there old place [] some = absurd (omega arith)
 run_there old place (b ∷ bs) some = refl
@@ -78,7 +78,7 @@ all_laid tells start now from place len at old new window so_far done some =
       added = so_far.laid ∙ run_there old place so_far.bytes (omega (arith, so_far.long, is, some));
     }
 
--- the text of a run: its address and its length, and as many bytes
+-- the text of a run: its address, its length, and that number of bytes
 run_parts : (file : List ℕ) (at place len : ℕ) (bytes : List ℕ) → take 8 (drop at file) ≡ field place ++ field len → bytes ≡ take len (drop (at + 8) file)
     → length bytes ≡ len
     → drop at file ≡ run_text (run_of place bytes) ++ drop (at + 8 + len) file
@@ -90,7 +90,7 @@ run_parts file at place len bytes head is long =
     ∙ ap (λ (l : List ℕ). l ++ drop len behind) (sym is) ∙ ap (λ (l : List ℕ). bytes ++ l) (drop-drop len (at + 8) file))
     ∙ ap (λ (n : ℕ). (field place ++ field n) ++ (bytes ++ drop (at + 8 + len) file)) (sym long)
 
--- a run was found, and laid
+-- a run was read and added to the image
 pub run_added : (tells : Bool) (start now : BenchState) (whole : ℕ) (regions : List Region) (low at place len : ℕ) (old new : List Run)
     → (IsTrue tells → now.file ≡ start.file)
     → (IsTrue tells → run_at whole regions low (drop at start.file) ≡ Ok (run_of place (take len (drop (at + 8) start.file)), drop (at + 8 + len) start.file))
@@ -109,7 +109,7 @@ run_added tells start now whole regions low at place len old new same found head
     stand : IsTrue tells → laid.bytes ≡ take len (drop (at + 8) start.file)
     stand told = laid.stand told ∙ ap (λ (f : List ℕ). take len (drop (at + 8) f)) (same told)
 
--- a fault that says nothing of the file
+-- a fault that says nothing of the file agrees with every reading
 pub no_verdict : {Y : Type 0} (e : ReadFault) (read : Result Y ℕ) → IsNoVerdict e → Fails e read
 no_verdict OutOfMemory read none = tt
 no_verdict StoreFault read none = tt
@@ -144,7 +144,7 @@ run_of_same tells file now whole regions low at old new place len same r = recor
   placed = r.placed;
 }
 
--- the text of one run more
+-- the text of one more run
 text_more : (image new : List Run) (run : Run) (whole rest behind : List ℕ) → new ≡ image ++ run ∷ [] → whole ≡ flat_map run_text image ++ rest
     → rest ≡ run_text run ++ behind → whole ≡ flat_map run_text new ++ behind
 text_more image new run whole rest behind is so_far one =
@@ -177,7 +177,7 @@ no_runs_yet tells s whole regions count begin window within room =
       faults = refl;
     }
 
--- one run more
+-- one more run is read
 pub run_more : (tells : Bool) (start now then : BenchState) (whole : ℕ) (regions : List Region) (from count begin at : ℕ) (image new : List Run)
     (window window' : List ℕ) (taken place len next behind : ℕ)
     → RunsSoFar tells start now whole regions from count begin at image window taken → taken < count
@@ -228,7 +228,7 @@ run_more tells start now then whole regions from count begin at image new window
       faults = faults ∙ so_far.faults;
     }
 
--- a run that fails ends all
+-- where a run fails, the reading of all runs fails
 pub run_fails : (tells : Bool) (start now : BenchState) (whole : ℕ) (regions : List Region) (from count begin at : ℕ) (image : List Run) (window : List ℕ)
     (taken : ℕ) (e : ReadFault)
     → RunsSoFar tells start now whole regions from count begin at image window taken → taken < count

@@ -43,7 +43,7 @@ pub rest_texts : (d : ℕ) (format : Format) (h : Head) (bytes : List ℕ) (e : 
 rest_texts d format h bytes e = fails_within e (texts_at d (places_of format) h bytes) (rest_at d format h bytes)
     (λ at is. rest_from d format h bytes ∙ bind_err (texts_at d (places_of format) h bytes) (counts_behind d format h) at is)
 
--- the texts were read, up to a place
+-- the texts were read, and end at this place
 abbrev AreRead : ℕ → Format → Head → List ℕ → Texts → ℕ → Type 0
 AreRead d format h file t end = texts_at d (places_of format) h (drop (places_of format).front file) ≡ Ok (t, drop end file)
 
@@ -137,7 +137,7 @@ rest_job job d format h file s r board_is algorithms_are runs many long left =
 
 -- ---- the head
 
--- the head that is read from its bytes is written so
+-- the head that is read from bytes is written as these bytes
 nil_from : (l : List ℕ) → length l ≡ 0 → l ≡ []
 nil_from [] e = refl
 nil_from (x ∷ xs) e = absurd (omega arith)

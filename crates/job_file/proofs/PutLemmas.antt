@@ -42,13 +42,13 @@ pub record PutSoFar (tells : Bool) (start now : BenchState) (front window : List
   pub store : now.store_faults ≡ start.store_faults
   pub device : now.device_faults ≡ start.device_faults
 
--- a step that keeps byte 0
+-- a step that keeps byte 0 keeps the gate closed
 pub still_shut : (a b c : BenchState) → Leaves (file_half a) (file_half b) IsShut → Leaves (file_half b) (file_half c) (Follows KeepsGate (file_half b))
     → Leaves (file_half a) (file_half c) IsShut
 still_shut a b c shut moments =
     leaves_then IsShut shut (leaves_as (Follows KeepsGate (file_half b)) IsShut (λ f (d, was, same). same ∙ leaves_left IsShut shut d was) moments)
 
--- some cells more
+-- more cells are appended
 pub cells_more : (front cells file new : List ℕ) (at end : ℕ) → at ≤ end → file ≡ 0 ∷ (front ++ take at cells) → new ≡ file ++ take (end - at) (drop at cells)
     → new ≡ 0 ∷ (front ++ take end cells)
 cells_more front cells file new at end le is more =
@@ -78,7 +78,7 @@ hash_put body hash is long =
     ∙ ap (λ (l : List ℕ). 0 ∷ l) (append_assoc (take 7 body) hash (drop 39 body))
     ∙ ap (λ (l : List ℕ). 0 ∷ (take 7 body ++ (l ++ drop 39 body))) is
 
--- what a write at the end leaves of byte 0
+-- a torn write from byte 1 on, or later, keeps byte 0
 pub gate_kept : (to n : ℕ) (d f : List ℕ) → 1 ≤ to → Torn to n d f → take 1 f ≡ take 1 d
 gate_kept to n d f some torn = gate_in to d f some torn.before
   where

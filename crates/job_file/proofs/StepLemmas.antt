@@ -39,7 +39,7 @@ text_cut d n bytes short = ap (λ (b : Bool). cond b (Err d) (Ok (take n bytes, 
 pub fails : (d : ℕ) (b : Bool) → b ≡ false → holds_or d b ≡ Err d
 fails d b e = ap (holds_or d) e
 
--- a step that fails within another
+-- a step that fails makes the steps around it fail
 pub err_through : {A B C E : Type 0} (r : Result A E) (q : A → Result B E) (k : A → B → Result C E) (e : E) → (r >>= q) ≡ Err e
     → (r >>= λ a. q a >>= k a) ≡ Err e
 err_through (Ok x) q k e is = ap (λ (s : Result _ _). s >>= k x) is
@@ -65,7 +65,7 @@ number_step d at bytes rest k is long =
     (number_here d (drop at bytes) (omega (arith, long, length-drop at bytes)))
     ∙ ap (λ (l : List ℕ). k (field32 bytes at, l)) (at_place 4 at bytes)
 
--- the numbers of the first format, from 7 on
+-- the lengths in a head of the first format, from 7 on
 abbrev first_in : List ℕ → Head
 first_in bytes = record { board = field32 bytes 7; files = 1; first = field32 bytes 11; second = 0; runs = field32 bytes 15; cells = field32 bytes 19 }
 
@@ -117,7 +117,7 @@ second_here d bytes long =
     (record { board = field32 bytes 39; files = field32 bytes 43; first = field32 bytes 47; second = field32 bytes 51; runs = field32 bytes 55; cells = n.0 })
     n.1) refl (omega (arith, long))
 
--- how long the head of a format is
+-- a head is at least as long as a mark
 pub head_long : (format : Format) → 7 ≤ head_len format
 head_long First = omega arith
 head_long Second = omega arith
@@ -127,7 +127,7 @@ abbrev head_in : Format → List ℕ → Head
 head_in First bytes = first_in bytes
 head_in Second bytes = second_in bytes
 
--- the first format has its mark looked at
+-- the mark is checked in the first format only
 abbrev is_marked : Format → List ℕ → Bool
 is_marked First bytes = starts_with nat_eq bytes first_mark
 is_marked Second bytes = true
@@ -149,7 +149,7 @@ head_here d Second bytes long =
     bind_is (text_at d 39 bytes) (λ m. second_numbers d m.1) (take 39 bytes, drop 39 bytes) (text_here d 39 bytes (omega (arith, long)))
     ∙ second_here d bytes long
 
--- a field of the front
+-- a field in the first bytes is the same field of all bytes
 field_front : (at n : ℕ) (bytes : List ℕ) → at + 4 ≤ n → field32 (take n bytes) at ≡ field32 bytes at
 field_front at n bytes le =
     let m = n - at in
@@ -179,7 +179,7 @@ mark_front : (format : Format) (bytes : List ℕ) → is_marked format (take (he
 mark_front First bytes = ap (λ (l : List ℕ). pointwise nat_eq first_mark l) (take-take 7 23 bytes (omega arith))
 mark_front Second bytes = refl
 
--- what is read from the first bytes
+-- the head in the first bytes, after the check of its mark
 front_here : (d : ℕ) (format : Format) (bytes : List ℕ) → head_len format ≤ length bytes
     → head_at d format (take (head_len format) bytes) ≡ marked (is_marked format bytes) format (take (head_len format) bytes)
 front_here d format bytes long =
@@ -223,7 +223,7 @@ run_from : (d : ℕ) (regions : List Region) (low : ℕ) (bytes : List ℕ)
 unfolding run_at
 run_from d regions low bytes = refl
 
--- there are fewer bytes than address and length have
+-- a run of fewer than eight bytes fails at the file's length
 pub run_short : (d : ℕ) (regions : List Region) (low : ℕ) (bytes : List ℕ) → length bytes < 8 → run_at d regions low bytes ≡ Err d
 run_short d regions low bytes short = run_from d regions low bytes ∙ ⊎_elim
     (λ (less : length bytes < 4). bind_err (number_at d bytes) (λ at. run_behind d regions low bytes at.0 at.1) d (number_cut d bytes less))
@@ -287,7 +287,7 @@ run_here d regions low bytes long fits right =
 
 -- ---- a run, from the bytes before it
 
--- where those bytes come from
+-- the head of a run is the eight bytes at offset `at` of the file
 pub record IsRunHead (head file : List ℕ) (whole at : ℕ) : Type 0 where
   pub long : length file ≡ whole
   pub within : at + 8 ≤ whole
@@ -329,7 +329,7 @@ judged head file whole regions low at place len h place_is len_is fits right =
     ∙ (λ i. Ok (run_of (p i) (take (n i) (drop-drop 8 at file i)), drop (n i) (drop-drop 8 at file i)))
     ∙ ap (λ (l : List ℕ). Ok (run_of place (take len (drop (at + 8) file)), l)) (drop-drop len (at + 8) file)
 
--- where a run is placed
+-- a run keeps each condition on its place
 pub record ArePlaced (regions : List Region) (low place len : ℕ) : Type 0 where
   pub rises : low ≤ place
   pub some : 0 < len

@@ -11,7 +11,7 @@ use Rattle.board_file.specs.Limits.{size_of}
 use Rattle.job_text.specs.declared.job.Job as code
 use Rattle.job_text.specs.Stands.{StandsFor, snapshot_in}
 
--- an address that a region holds is that of a cell
+-- regions that hold an address have at least one cell
 held_cell : (rs : List Region) (at : ℕ) → list_any (λ (r : Region). holds r at) rs ≡ true → 1 ≤ size_of rs
 held_cell [] at is = absurd cc
 held_cell (r ∷ rs) at is = by_test (holds r at) refl (held_cell rs at)

@@ -1,4 +1,4 @@
--- Before the gate is opened. For `begin`, which has prepared all by then.
+-- What a stop leaves before `begin` opens the gate: all its preparations come before that.
 use Rattle.std.proofs.Common.{◌≡◌, ⊎_elim, inl, inr, false, Result, Err}
 use Rattle.bench_model.specs.History.{Half, left, Leaves, AddsNothing}
 use Rattle.bench_model.proofs.Moments.{leaves_then, leaves_as, leaves_left}

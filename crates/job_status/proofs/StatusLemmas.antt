@@ -57,7 +57,7 @@ pub shown_devices : (algorithms : List Algorithm) → devices_of (algorithms_sho
 shown_devices [] = refl
 shown_devices (a ∷ rest) = ap (λ (l : List Device). a.device ∷ l) (shown_devices rest)
 
--- Both directions: what came is due.
+-- Both directions: the answer that came is the one that is due.
 module _ (bench : BenchCall) (out : SinkCall) (told : IsTrue bench.tells) where
   said_by : (text : List ℕ) (answer : Answer) → SaysText out text answer → IsSaid out text answer
   said_by text done says = says
@@ -143,7 +143,7 @@ module _ (bench : BenchCall) (out : SinkCall) (told : IsTrue bench.tells) where
       }
   is_due (refused r) comes = absurd comes
 
--- The file was read, and nothing more was done on the bench.
+-- The file was read, and no other call was made on the bench.
 module _ (tells : Bool) (b after : BenchState) (inputs : InputsCall) (takes : TakesNothing inputs) (reads : OnlyReads tells b after) where
   -- a text went to `out`
   module _ (out : SinkCall) (same : after.store_faults ≡ b.store_faults) where

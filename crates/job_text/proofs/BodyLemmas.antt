@@ -117,7 +117,7 @@ no_second files second one is = ⊎_elim
     (λ (zero_ : nat_eq second 0 ≡ true). eqb-true _ _ zero_)
     (or_cases (not (nat_eq files 1)) (nat_eq second 0) is)
 
--- with one file, or with two
+-- the texts are read again, with one FLM file or with two
 texts_are : (h : Head) (bytes after between : List ℕ) (text : List ℕ) (b : board.Shown) (first : File) (o : Option File) (rest : List ℕ)
     → bytes ≡ text ++ after → IsBoard text b → length text ≡ h.board → are_files h.files (length b.regions) ≡ true →
     (not (nat_eq h.files 1) || nat_eq h.second 0) ≡ true
@@ -242,7 +242,7 @@ head_for j = record {
       length j.snapshot;
 }
 
--- ---- and again
+-- ---- what was written is read again
 
 files_again : (files regions : ℕ) → (files ≡ 1) ⊎ (files ≡ 2) → files ≡ regions → are_files files regions ≡ true
 files_again files regions (inl one) same = and_from _ _ (left (eq-eqb files 1 one)) (eq-eqb files regions same)
@@ -602,7 +602,7 @@ pub job_again : (d : ℕ) (j : Job) (b : board.Shown) (algorithms : List flm.Sho
 job_again d j b algorithms long is = ap (λ (f : Format). job_as d f (body_of j)) (format_of j.format j) ∙
     as_format d j.format j b algorithms long refl is.files is
 
--- a body has at least its head
+-- a body is at least as long as its head
 pub long_body : (j : Job) → (places_of j.format).front ≤ length (body_of j) + 1
 long_body j = by_format j.format
   where
@@ -610,7 +610,7 @@ long_body j = by_format j.format
     by_format First = omega arith
     by_format Second = omega (arith, length-sha256 (hashed_of j), length-append (sha256 (hashed_of j)) (hashed_of j))
 
--- one body has one job
+-- a body belongs to one job only
 pub same_job : (j k : Job) (b c : board.Shown) (a e : List flm.Shown) → IsJob j b a → IsJob k c e → body_of j ≡ body_of k → j ≡ k
 same_job j k b c a e is_j is_k same =
     let one = job_again 64 j b a (front_small j.format) is_j in
@@ -632,7 +632,7 @@ all_fitting b files first (Some second) are fit more =
     let two : files ≡ 2 = ⊎_elim (λ (one_ : files ≡ 1). absurd (more.0 one_)) (λ (two_ : files ≡ 2). two_) count.0 in
     two_fit b b.regions first.algorithm second.algorithm (sym count.1 ∙ two) fit more.1
 
--- what stands before the snapshot of a body, which ends with it
+-- the part of a body between its head and its snapshot
 abbrev texts_before : Job → List ℕ
 texts_before j = j.board ++ (concat j.flms ++ flat_map run_text j.image)
 

@@ -1,4 +1,4 @@
--- What a file is, in the words of the format. `class_of_file`, and all that judge a file, go by them from case to case.
+-- What a file is, in terms of the format, case by case. `class_of_file` and all other judges of a file use these.
 use Rattle.std.proofs.Common.{◌≡◌, ◌≢◌, if◌then◌else◌, ◌⊎◌, ⊎_elim, inl, inr, ℕ, suc, ◌+◌, ◌-◌, ◌<◌, ◌≤◌, Bool, true, false, not, ◌&&◌, cond, leb, List, []}
 use Rattle.std.proofs.Common.{◌∷◌, ◌++◌, length, get_or, take, drop, Result, Ok, Err, refl, sym, ap, subst, ◌∙◌, arith}
 use Rattle.std.specs.Prelude.{bytes_eq}
@@ -154,7 +154,7 @@ second_whole body j format intact format_is rest =
     of_mark true is = refl
     of_mark false is = absurd cc
 
--- a body that is read and not damaged is that of the job that was found
+-- an undamaged body that is read as a job is the body of that job
 body_is : (whole : ℕ) (body : List ℕ) (x : Found) → IsBytes body → (63 ≤ length body) ⊎ (length body < 63) → is_damaged body ≡ false →
     job_at whole body ≡ Ok x → (body ≡ body_of x.job) × IsJob x.job x.board x.algorithms
 body_is whole body x fits size intact r = by_test (is_second body) refl
@@ -216,7 +216,7 @@ no_job_behind gate next rest c opened is never = record {
       (behind (length rest + 2) (next ∷ rest));
 }
 
--- damage, in the words of the format
+-- a damaged body, in terms of the format
 broken_is : (gate next : ℕ) (rest : List ℕ) → gate ≡ 165 → is_damaged (next ∷ rest) ≡ true →
     IsDamaged (kept_in (next ∷ rest)) (found_in (next ∷ rest)) (gate ∷ next ∷ rest)
 broken_is gate next rest opened broken =
@@ -295,7 +295,7 @@ not_class (gate ∷ next ∷ rest) at e = ⊎_elim
     })
     (long gate next rest)
 
--- the snapshot stands at the end
+-- the snapshot is the end of the file
 snapshot_from : (j : Job) (file : List ℕ) → IsWhole (body_of j) file → j.snapshot ≡ drop (length file - length j.snapshot) file
 snapshot_from j file whole =
     let front : List ℕ = 165 ∷ front_text j.format j in
@@ -333,7 +333,7 @@ stands_behind whole body s intact is =
     let (x, found, same) = was_seen whole (job_at whole body) s is in
     (x, ap (λ (b : Bool). cond b (damaged (kept_in body) (found_in body)) (class_from (job_at whole body))) intact ∙ ap class_from found, same)
 
--- a file whose gate is open is what its body says
+-- the class of a file with an open gate is decided by its body
 pub class_opened : (file : List ℕ) → 1 < length file → get_or file 0 0 ≡ 165 → class_of file ≡ class_behind (length file) (drop 1 file)
 unfolding class_of
 class_opened [] enough opened = absurd (omega arith)

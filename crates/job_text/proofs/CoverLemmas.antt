@@ -1,4 +1,4 @@
--- Which addresses regions cover. A job has no byte of an image outside the regions.
+-- Which addresses regions cover: no byte of a job's image lies outside the regions.
 use Rattle.std.proofs.Common.{◌≡◌, ℕ, ◌+◌, ◌-◌, ◌≤◌, ◌<◌, ◌⊎◌, ⊎_elim, inl, inr, Bool, true, false, ◌||◌, IsTrue, List, [], ◌∷◌, length, refl, arith}
 use Rattle.std.specs.List.{list_any}
 use Rattle.std.proofs.lemmas.Bool.{cases_lt, leb-true, ltb-true, le-leb, lt-ltb, and_parts, and_from}
@@ -34,7 +34,7 @@ reach_above (r ∷ rs) at = by_test (holds r at) refl (reach_above rs at)
     by_test true is later = rw is (let h = held r at is in omega (arith, h.to))
     by_test false is later = rw is later
 
--- from an address on, up to where it reaches, each address lies in a region
+-- each address from `from` up to its reach lies in a region
 reach_held : (rs : List Region) (from at : ℕ) → from ≤ at → at < reach rs from → list_any (λ r. holds r at) rs ≡ true
 reach_held [] from at above below = absurd (omega (arith, above, below))
 reach_held (r ∷ rs) from at above below = by_test (holds r from) refl (reach_held rs from at above)
@@ -56,7 +56,7 @@ covers_each rs from to is = λ at above below.
     (λ (second : reach rs from ≤ at). reach_held rs (reach rs from) at second (omega (arith, below, le)))
     (cases_lt at (reach rs from))
 
--- an address that a region holds reaches this region's end
+-- the region holds the address `at`, and ends at `end`
 record EndOf (r : Region) (at end : ℕ) : Type 0 where
   from : r.base ≤ at
   to : at < end
@@ -73,7 +73,7 @@ end_of_two r s at some = by_first (holds r at) refl
     by_first true is = let h = held r at is in inl (rw is (record { from = h.from; to = h.to; is = refl }))
     by_first false is = by_second (holds s at) is refl
 
--- three steps in two regions come back to none of the ends
+-- with two regions, three steps can't each reach a new end
 no_third : (r s : Region) (a b c d : ℕ) → EndOf r a b ⊎ EndOf s a b → EndOf r b c ⊎ EndOf s b c → EndOf r c d ⊎ EndOf s c d → ⊥
 no_third r s a b c d (inl x) (inl y) z = omega (arith, x.is, y.is, y.to)
 no_third r s a b c d (inr x) (inr y) z = omega (arith, x.is, y.is, y.to)
@@ -126,7 +126,7 @@ each_covered (r ∷ s ∷ t ∷ rs) from to few some each = absurd (omega (arith
 
 -- ---- how far regions reach
 
--- none has more bytes than a board may have
+-- no region has more bytes than a board may have
 abbrev pub AreSmall : List Region → Type 0
 AreSmall [] = Unit {0}
 AreSmall (r ∷ rs) = (r.size ≤ 16777216) × AreSmall rs
@@ -146,7 +146,7 @@ covers_small rs from to small is =
 
 -- ---- how many cells lie below an address
 
--- those of a region: with base and size of it cut off at both ends
+-- how many cells of a region lie below an address
 abbrev pub under : Region → ℕ → ℕ
 under r at = r.size - (r.base + r.size - at)
 

@@ -21,7 +21,7 @@ shown_length : (algorithms : List Algorithm) → length (algorithms_shown algori
 shown_length [] = refl
 shown_length (a ∷ rest) = ap suc (shown_length rest)
 
--- another number of algorithms fits no board
+-- another number of algorithms than regions doesn't fit
 pub other_count : (b : board.Shown) (rs : List Region) (algorithms : List Algorithm) → (length rs ≡ length algorithms → ⊥) →
     false ≡ all_fit b rs (algorithms_shown algorithms)
 other_count b rs algorithms other = by_test (all_fit b rs (algorithms_shown algorithms)) refl
@@ -30,7 +30,7 @@ other_count b rs algorithms other = by_test (all_fit b rs (algorithms_shown algo
     by_test true fit = absurd (other (same_count b rs (algorithms_shown algorithms) fit ∙ shown_length algorithms))
     by_test false fit = sym fit
 
--- one region more
+-- one more region and its algorithm
 pub fit_next : (b : board.Shown) (rs : List Region) (algorithms : List Algorithm) (k : ℕ) (r : Region) (a : Algorithm) → length rs ≡ length algorithms →
     k < length rs → slice_get rs k ≡ Some r → slice_get algorithms k ≡ Some a
     → all_fit b (drop k rs) (algorithms_shown (drop k algorithms)) ≡
@@ -53,7 +53,7 @@ fit_done b rs algorithms k same all = rw (drop_all k rs all, drop_all k algorith
 
 -- ---- runs
 
--- one run more
+-- one more run
 pub covered_next : (regions : List Region) (rs : List Run) (k : ℕ) (r : Run) → k < length rs → slice_get rs k ≡ Some r
     → all_covered regions (drop k rs) ≡ (covers regions r.at (end_of r) && all_covered regions (drop (k + 1) rs))
 covered_next regions [] k r less is = absurd (omega (arith, less))
@@ -62,7 +62,7 @@ covered_next regions (x ∷ rs) (suc k) r less is =
     let more : suc k + 1 ≡ suc (k + 1) = omega arith in
     covered_next regions rs k r (omega (arith, less)) is ∙ ap (λ (n : ℕ). covers regions r.at (end_of r) && all_covered regions (drop n (x ∷ rs))) (sym more)
 
--- a run that lies in the regions, and one that doesn't
+-- one more run lies in the regions, or doesn't
 pub covered_on : (regions : List Region) (rs : List Run) (k : ℕ) (r : Run) → k < length rs → slice_get rs k ≡ Some r → covers regions r.at (end_of r) ≡ true →
     all_covered regions (drop k rs) ≡ all_covered regions rs
     → all_covered regions (drop (k + 1) rs) ≡ all_covered regions rs

@@ -1,4 +1,4 @@
--- The device of every FLM file lies in memory. So the regions of a job that fit their algorithms have addresses.
+-- The device of every FLM file lies in memory, so the regions that fit it have addresses.
 use Rattle.std.proofs.Common.{◌≡◌, ℕ, ◌+◌, ◌≤◌, ◌^◌, Bool, true, false, ◌||◌, cond, eqb, ltb, List, length, Option, Some, None, Result, Ok, Err, refl, ap}
 use Rattle.std.proofs.Common.{subst, arith}
 use Rattle.std.proofs.lemmas.Bool.{ltb-false}
@@ -93,7 +93,7 @@ of_parts bytes sections contents a e =
     device_in (Ok x) d = x.device
     device_in (Err f) d = d
 
--- what an FLM file says of its device
+-- the device in an FLM file lies in memory
 pub device_in_memory : (bytes : List ℕ) (a : Shown) → flm_of bytes ≡ Ok a → IsInMemory a.device
 unfolding flm_of
 device_in_memory bytes a e =

@@ -1,4 +1,4 @@
--- Runs taken one after the other, as a loop does. `take_runs`, and `read_runs` over a file in windows, go on by them.
+-- Runs taken one after the other, as the loops of `take_runs` and of `read_runs` take them.
 use Rattle.std.proofs.Common.{◌≡◌, IsTrue, ℕ, suc, ◌-◌, ◌+◌, ◌*◌, ◌≤◌, ◌<◌, List, [], ◌∷◌, ◌++◌, length, Result, Ok, Err, refl, sym, ap, subst, ◌∙◌}
 use Rattle.std.proofs.Common.{append_assoc, arith}
 use Rattle.std.proofs.lemmas.List.{append-nil, length-append}
@@ -14,7 +14,7 @@ use Rattle.job_text.specs.Shown.{Fails}
 use Rattle.job_text.proofs.CoverLemmas.{covers_each, cells_under, under_grows, covers_under}
 use Rattle.job_text.proofs.RunLemmas.{maximal_behind, end_below_more}
 
--- what was taken before, and what is still taken
+-- the runs taken before, followed by the runs still to be taken
 abbrev pub with_front : List Run → Result (List Run × List ℕ) ℕ → Result (List Run × List ℕ) ℕ
 with_front front read = read >>= λ x. Ok (front ++ x.0, x.1)
 
@@ -50,7 +50,7 @@ goes_on d regions low front count i bytes n after total lt h so_far =
     rw (k, h) (regroup front n (runs_at d regions (count - (i + 1)) (n.at + length n.bytes + 1) after)) in
     sym one ∙ so_far
 
--- one run more
+-- one more run
 pub more : (whole : ℕ) (regions : List Region) (from count : ℕ) (image : List Run) (rest bytes : List ℕ) (taken : ℕ) (r : Run) (after : List ℕ) (new : List Run)
     (next : ℕ)
     → SoFar whole regions from count image rest bytes taken → taken < count → run_at whole regions from rest ≡ Ok (r, after) → length after ≤ length rest

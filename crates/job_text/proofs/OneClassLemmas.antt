@@ -23,7 +23,7 @@ something file (damaged kept found) fits is = let d : IsFoundDamaged kept found 
     inr (inr (inl (kept, found, d.damaged)))
 something file (not_a_job at) fits is = inr (inr (inr (at, not_class file at is)))
 
--- a gate that is open before a body isn't shut
+-- a body has at least one byte
 some_body : (format : Format) (j : Job) → 1 ≤ length (body_in format j)
 some_body First j = omega arith
 some_body Second j = omega arith

@@ -1,4 +1,4 @@
--- A body says one job, where the numbers of the job have room in their fields; and those of a job whose texts suit one another have.
+-- A body belongs to one job only, where the numbers of the job fit their fields, as they do where its texts suit one another.
 use Rattle.std.proofs.Common.{◌≡◌, ◌⊎◌, ⊎_elim, inl, ℕ, ◌≤◌, ◌<◌, ◌+◌, ◌^◌, List, [], ◌∷◌, ◌++◌, All, length, drop, refl, sym, ap, subst, ◌∙◌, append_assoc}
 use Rattle.std.proofs.Common.{arith}
 use Rattle.std.specs.List.{concat, flat_map}
@@ -43,7 +43,7 @@ one_field n m r s small few e =
     let both : (n, r) ≡ (m, s) = ok_is {E = ℕ} (n, r) (m, s) (sym (number_again 0 n r small) ∙ ap (number_at 0) e ∙ number_again 0 m s few) in
     (ap (λ (x : ℕ × List ℕ). x.0) both, ap (λ (x : ℕ × List ℕ). x.1) both)
 
--- the first run in front of the others
+-- the first run, followed by the others
 apart : (x : Run) (rs : List Run) (r : List ℕ) → flat_map run_text (x ∷ rs) ++ r ≡ field x.at ++
     (field (length x.bytes) ++ (x.bytes ++ (flat_map run_text rs ++ r)))
 apart x rs r =
@@ -66,7 +66,7 @@ one_image (x ∷ rs) (y ∷ ss) r s long small few e =
     let rest = one_image rs ss r s (omega (arith, long)) (All-tail HasRoom x rs small) (All-tail HasRoom y ss few) bytes.1 in
     (λ i. record { at = at.0 i; bytes = bytes.0 i } ∷ rest.0 i, rest.1)
 
--- one file or two
+-- equal texts of one FLM file or two are equal files
 one_or_two : (xs ys : List (List ℕ)) (r s : List ℕ) → (length xs ≡ 1) ⊎ (length xs ≡ 2) → length xs ≡ length ys → flm_len xs 0 ≡ flm_len ys 0 →
     flm_len xs 1 ≡ flm_len ys 1
     → concat xs ++ r ≡ concat ys ++ s → (xs ≡ ys) × (r ≡ s)
@@ -139,7 +139,7 @@ one_text j k a b e =
     (e ∙ ap (λ (f : Format). body_in f k) (sym format)) in
     λ i. record { format = format i; board = same.board i; flms = same.flms i; image = same.image i; snapshot = same.snapshot i }
 
--- ---- a job has room
+-- ---- the numbers of a job fit their fields
 
 rooms : (regions : List Region) (low : ℕ) (rs : List Run) → length regions ≤ 2 → AreSmall regions → AreMaximal low addresses rs → AreCovered regions rs →
     All HasRoom rs

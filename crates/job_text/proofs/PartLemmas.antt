@@ -26,7 +26,7 @@ first_len : (first : List ℕ) (second : Option (List ℕ)) → flm_len (files_w
 first_len first None = refl
 first_len first (Some second) = refl
 
--- with any snapshot of the size they are a job
+-- the parts with any snapshot of their size are a job
 pub job_of_parts : (p : JobParts) (are : AreParts p) (snapshot : List ℕ) → length snapshot ≡ p.size → IsJob (job_of p snapshot) are.board are.algorithms
 job_of_parts p are snapshot long = record {
   board = are.is_board;
@@ -51,7 +51,7 @@ short_parts p are =
     let few = few_regions (job_of p (replicate p.size 0)) are.board are.algorithms (blank_job p are) in
     short_runs are.board.regions p.image.now small few are.suits.inside.0 are.suits.inside.1
 
--- the lengths, the rest of the front and a snapshot of the size are what the hash is of
+-- the hashed bytes are the lengths, the rest of the front, and a snapshot of the size
 front_is : (p : JobParts) (snapshot : List ℕ) → length snapshot ≡ p.size →
     (lengths_of p ++ p.board.now ++ concat (flms_of p) ++ flat_map run_text p.image.now) ++ snapshot ≡ hashed_of (job_of p snapshot)
 front_is p snapshot len =
@@ -63,7 +63,7 @@ front_is p snapshot len =
     (field (flm_len (flms_of p) 0) ++ (field (flm_len (flms_of p) 1) ++ (field (length p.image.now) ++ (field (length snapshot) ++ l))))))
     (append_assoc (p.board.now ++ flms) runs snapshot ∙ append_assoc p.board.now flms (runs ++ snapshot))
 
--- with its hash in its place, a front with a snapshot of the size is the body
+-- a front with a snapshot of the size, and with its hash in place, is the body
 pub hashed_is : (p : JobParts) (snapshot : List ℕ) → length snapshot ≡ p.size → with_hash (front_of p ++ snapshot) ≡ body_of (job_of p snapshot)
 hashed_is p snapshot len =
     let zeros : List ℕ = replicate 32 0 in
@@ -76,7 +76,7 @@ hashed_is p snapshot len =
     ap (λ (l : List ℕ). drop 39 l) parts ∙ drop_at start ((lengths_of p ++ behind) ++ snapshot) 39 refl ∙ front_is p snapshot len in
     λ i. second_mark ++ (sha256 (rest i) ++ rest i)
 
--- one run more is written
+-- one more run is written
 pub more_runs : (image : List Run) (i : ℕ) (r : Run) (out old new : List ℕ) → i < length image → slice_get image i ≡ Some r →
     old ≡ out ++ flat_map run_text (take i image)
     → new ≡ old ++ run_text r → new ≡ out ++ flat_map run_text (take (i + 1) image)

@@ -13,7 +13,7 @@ use Rattle.job_text.specs.Reading.{fits_in}
 use Rattle.job_text.proofs.CoverLemmas.{AreSmall}
 use Rattle.job_text.proofs.FlmLemmas.{IsInMemory, device_in_memory}
 
--- each region has one algorithm, and each file says one
+-- there is one algorithm for each region, and one in each file
 pub same_count : (b : board.Shown) (rs : List Region) (algorithms : List flm.Shown) → all_fit b rs algorithms ≡ true → length rs ≡ length algorithms
 same_count b [] [] fit = refl
 same_count b [] (a ∷ rest) fit = absurd cc
@@ -26,7 +26,7 @@ same_files [] (a ∷ rest) are = absurd are
 same_files (f ∷ files) [] are = absurd are
 same_files (f ∷ files) (a ∷ rest) are = omega (arith, same_files files rest are.1)
 
--- one algorithm and one region, or two
+-- one algorithm fits one region, and two fit two
 pub one_fits : (b : board.Shown) (rs : List Region) (a : flm.Shown) → length rs ≡ 1 → fits_in b (slice_get rs 0) a ≡ true → all_fit b rs (a ∷ []) ≡ true
 one_fits b [] a one fit = absurd (omega (arith, one))
 one_fits b (r ∷ []) a one fit = and_from _ _ fit refl
@@ -52,7 +52,7 @@ second_fits b (r ∷ s ∷ rs) a c rest fit =
     let p = and_parts (fits b r a) (all_fit b (s ∷ rs) (c ∷ rest)) fit in
     (and_parts (fits b s c) (all_fit b rs rest) p.1).0
 
--- regions have as few bytes as the devices of FLM files
+-- regions with FLM files have no more bytes than a board may have
 pub small_regions : (b : board.Shown) (rs : List Region) (algorithms : List flm.Shown) (files : List (List ℕ)) → all_fit b rs algorithms ≡ true →
     AreFlms files algorithms → AreSmall rs
 small_regions b [] algorithms files fit are = tt

@@ -44,7 +44,7 @@ pub rest_said : (d : ℕ) (format : Format) (h : Head) (bytes : List ℕ) (t : T
 rest_said d format h bytes t rest read =
     rest_from d format h bytes ∙ bind_is (texts_at d (places_of format) h bytes) (counts_behind d format h) (t, rest) read
 
--- the numbers of cells differ
+-- another number of cells fails
 pub rest_unsized : (d : ℕ) (format : Format) (h : Head) (bytes : List ℕ) (t : Texts) (rest : List ℕ) → AreRead d format h bytes t rest
     → h.cells ≢ size_of t.board.regions → rest_at d format h bytes ≡ Err (places_of format).cells
 rest_unsized d format h bytes t rest read differ =
@@ -52,7 +52,7 @@ rest_unsized d format h bytes t rest read differ =
     ∙ ap (λ (b : Bool). holds_or (places_of format).cells b >>= λ sized. holds_or (places_of format).runs (ltb 0 h.runs)
     >>= λ some. runs_behind d format h (t, rest)) (ne_eqb _ _ differ)
 
--- there is a cell for each of the regions, and then a run or none
+-- with the right number of cells, the reading continues with the number of runs
 pub rest_sized : (d : ℕ) (format : Format) (h : Head) (bytes : List ℕ) (t : Texts) (rest : List ℕ) → AreRead d format h bytes t rest
     → h.cells ≡ size_of t.board.regions
     → rest_at d format h bytes ≡ (holds_or (places_of format).runs (ltb 0 h.runs) >>= λ some. runs_behind d format h (t, rest))

@@ -14,7 +14,7 @@ use Rattle.job_text.specs.Fits.{AreCovered}
 use Rattle.job_text.specs.Runs.{EndBelow, EndBy, AreShort, run_of, with_run}
 use Rattle.job_text.proofs.CoverLemmas.{AreSmall, each_covered, covers_small}
 
--- where the later run has a byte, none of those before it has
+-- where a run after all others begins, no earlier run has a byte from there on
 none_before : (image : List Run) (r : Run) (a : ℕ) → EndBelow r.at image → r.at ≤ a → byte_at image a ≡ None
 none_before image r a below from = none_of image a (λ k lt. holds_no_higher (run_at image k) a (let ends = below k lt in omega (arith, ends, from)))
 
@@ -51,7 +51,7 @@ no_clash image r at old new by clash =
     let some : byte_at image at ≡ Some old = clash.old_is in
     absurd cc
 
--- a run that ends where a piece begins, and the piece
+-- a piece after a run that ends where the piece begins makes a longer run
 same_map_more : (image : List Run) (r piece : Run) (a : ℕ) → EndBelow r.at image → 1 ≤ length r.bytes → piece.at ≡ end_of r
     → byte_at (piece ∷ image ++ r ∷ []) a ≡ byte_at (image ++ run_of r.at (r.bytes ++ piece.bytes) ∷ []) a
 same_map_more image r piece a below some joins = by_piece (holds piece a) refl
@@ -107,7 +107,7 @@ laid_on image new r piece m below some joins ends lays =
     (maximal_behind 0 (2 ^ 32) image both m (omega arith) below (omega (arith, some, long)) (omega (arith, joins, ends, long)))
     (λ a. lays.union a ∙ same_map_more image r piece a below some joins)
 
--- a piece more of a run
+-- one more piece of a run is laid
 pub laid_more : (image new : List Run) (at : ℕ) (bytes piece : List ℕ) → AreMaximal 0 (2 ^ 32) image → EndBelow at image → 1 ≤ length piece →
     at + length bytes + length piece ≤ 2 ^ 32
     → Lays (run_of (at + length bytes) piece) (with_run image at bytes) new → new ≡ with_run image at (bytes ++ piece)
@@ -119,7 +119,7 @@ laid_more image new at [] (p ∷ ps) m below some ends lays =
 laid_more image new at (b ∷ bs) piece m below some ends lays = laid_on image new (run_of at (b ∷ bs)) (run_of (at + length (b ∷ bs)) piece) m below
     (omega arith) refl (omega (arith, ends)) lays
 
--- all of it ends where the next piece begins
+-- the image and the run added so far end where the next piece begins
 pub with_run_ends : (image : List Run) (at : ℕ) (bytes : List ℕ) → EndBelow at image → EndBy (at + length bytes) (with_run image at bytes)
 with_run_ends image at [] below k lt = let ends = below k lt in omega (arith, ends)
 with_run_ends image at (b ∷ bs) below k lt = elim (cases_lt k (length image)) [

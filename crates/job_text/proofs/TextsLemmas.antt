@@ -11,7 +11,7 @@ use Rattle.job_text.specs.Reading.{text_at, read_or, holds_or, File, file_at, se
 use Rattle.job_text.specs.Shown.{Fails}
 use Rattle.job_text.proofs.Steps.{bind_is}
 
--- a step that fails, and what follows it
+-- where a step fails, everything that begins with it fails
 failed_first : {Y Z : Type 0} (part : Result Y ℕ) (k : Y → Result Z ℕ) (whole : Result Z ℕ) (e : JobFault) → whole ≡ (part >>= k) → Fails e part → Fails e whole
 failed_first part k whole OutOfMemory is fails = tt
 failed_first part k whole (NotAJob at) is fails = is ∙ ap (λ (r : Result _ _). r >>= k) fails

@@ -29,7 +29,7 @@ pub struct Job {
     pub board: Board,
     /// The algorithm of each of the board's regions.
     pub algorithms: Algorithms,
-    /// What is to be programmed, by address.
+    /// The image to be programmed, by address.
     pub image: ByteMap,
     /// The offset of the snapshot in the job file. It goes on to the file's end: the cells as they were, region after region.
     pub snapshot_at: u64,

@@ -1,4 +1,4 @@
--- Files of a command that are those of a job are right.
+-- The files of a command are right if they are those of a job.
 use Rattle.std.proofs.Common.{◌≡◌, refl, sym, subst, arith, ap, ◌∙◌, ◌-◌, ◌≤◌, ◌<◌, ◌||◌, ℕ, zero, suc, Bool, true, IsTrue, IsSome, List, [], ◌∷◌, ◌++◌}
 use Rattle.std.proofs.Common.{length, take, drop, Option, option_to_list, Some, None}
 use Rattle.std.specs.List.{list_any}

@@ -37,7 +37,7 @@ module _ (has : Refusal → Bool) (Prints : ℕ → SinkCall → Answer → Type
   abbrev pub Stays : Answer → Type 0
   Stays answer = (answer ≡ done → ⊥) × DidNothing call.bench call.out
 
-  -- each answer comes before the work, with nothing done, or of the work
+  -- each answer comes before the work, with nothing done, or from the work
   pub by_answer : (answer : Answer) → EndsOnJob has Prints Starts asked call.bench call.inputs call.out answer → Stays answer ⊎ Works answer
   by_answer done ends = inr ends.files.shows
   by_answer (refused out_of_memory) ends = ⊎_elim

@@ -1,4 +1,4 @@
--- In every campaign what a stop leaves is safe, by induction on the list of calls.
+-- What a stop leaves is safe in every campaign, by induction on the list of calls.
 use Rattle.std.proofs.Common.{◌≡◌, ◌⊎◌, ⊎_elim, inl, inr, ◌∙◌, sym, ap, subst, ◌≤◌, ◌<◌, arith, ℕ, suc, List, [], ◌∷◌, Option, None, Ok}
 use Rattle.std.proofs.lemmas.Bool.{cases_lt}
 use Rattle.bench_model.specs.History.{left}
@@ -33,7 +33,7 @@ never_free job says f whole free = not_free says.text f (whole_text job says f w
 one_body : (a b f : List ℕ) → IsWhole a f → IsWhole b f → a ≡ b
 one_body a b f one two = let e : 165 ∷ a ≡ 165 ∷ b = sym one ∙ two in cc
 
--- one body has one goal
+-- a body has one goal
 same_goal : (goal : Goal) (a b : Job) → SaysJob a → SaysJob b → a.body ≡ b.body → goal_of goal a ≡ goal_of goal b
 same_goal goal a b says said body = by goal
   where
@@ -58,7 +58,7 @@ same_goal goal a b says said body = by goal
 
 -- ---- one call
 
--- a call that never comes to its close
+-- a call that never reaches its close
 never : (body : List ℕ) (call : Call) (end : ℕ) (goal : List ℕ) (First : List ℕ → List ℕ → Type 0) → IsWithin call end
     → AtEachStop call (λ moment f c. First f c) → PairsInTurn call.old call.new (suc call.new.moment) First (IsAtClose body goal)
 never body call end goal First within stops = record {
@@ -68,7 +68,7 @@ never body call end goal First within stops = record {
   from = λ k f c late to f_at c_at. absurd (omega (arith, late, to));
 }
 
--- a call that comes to its close, which isn't before its entry
+-- a call that reaches its close at the moment `at` or later
 record Closes (body : List ℕ) (call : Call) (goal : List ℕ) (First : List ℕ → List ℕ → Type 0) (at : ℕ) : Type 0 where
   closing : ℕ
   pairs : PairsInTurn call.old call.new closing First (IsAtClose body goal)

@@ -69,7 +69,7 @@ ends_operation call First stops = record {
   leaves = stops.settled;
 }
 
--- the answers with a status of those without a close
+-- a status without a close comes only with answers without a close
 no_close_with : (status : ℕ) (err : SinkCall) (answer : Answer) → SaysOn status err answer → HasNoClose status → has_no_close answer ≡ true
 no_close_with status err (refused out_of_memory) says none = refl
 no_close_with status err (refused device_fault) says none = refl
@@ -99,7 +99,7 @@ module _ (call : answers.Call) (answer : Answer) (zero : call.status ≡ 0 → a
     no_close = λ none. it.no_close (no_close_with call.status call.err answer said none);
   }
 
--- the whole file of such a job stands for it
+-- a whole file of this job stands for it
 pub taken : (call : answers.Call) (text : written.Job) (b : board.Shown) (algorithms : List flm.Shown) → IsJob text b algorithms
     → size_of b.regions ≡ call.bench.before.cell_count → (said : SaysJob (job_of text b)) → IsTaken (its call) (job_of text b) said
 taken call text b algorithms is size said = record {

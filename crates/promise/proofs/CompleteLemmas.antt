@@ -1,4 +1,4 @@
--- A call comes to its end.
+-- A call completes.
 use Rattle.std.proofs.Common.{◌≡◌, ◌⊎◌, ⊎_elim, inl, inr, refl, sym, ap, subst, ◌∙◌, ℕ, true, IsTrue, IsSome, List, length, Some}
 use Rattle.board_file.specs.Limits.{size_of}
 use Rattle.flash_session.specs.declared.goal.Goal.{Goal}
@@ -30,7 +30,7 @@ use Rattle.promise.proofs.StopLemmas.{its}
 use Rattle.promise.proofs.CampaignLemmas.{whole_text}
 use Rattle.promise.proofs.BackLemmas.{AreRight, are_right, its_aim}
 
--- the answer that is due is done
+-- where `done` is due, the call completes
 ends : (call : answers.Call) (answer : Answer) → SaysOn call.status call.err answer → AreCounted call.bench call.inputs call.out answer
     → NoFault (its call) → IsUnless answer done → IsComplete (its call)
 ends call done says counts none unless = inl says.0

@@ -47,7 +47,7 @@ others_are : (first : Option (List ℕ)) (regions : List Region) → IsSome firs
 others_are None regions some = absurd (cc)
 others_are (Some file) regions some = refl
 
--- the job of a command's files is theirs
+-- the job made from a command's files is the job of these files
 pub of_files : (inputs : InputsCall) (asked : FilesAsked) (files : FilesGiven) (aim : Aim) (snapshot : List ℕ) → IsTrue inputs.tells
     → AreFiles inputs asked files
     → IsAim asked.raw_at files aim → HasTexts files aim → IsJob (job_for files aim snapshot) aim.board aim.algorithms
@@ -70,7 +70,7 @@ of_files inputs asked files aim snapshot told are is has is_job =
       union = is.are_read.union;
     }
 
--- it has the second format
+-- the job of a command's files has the second format
 pub second_format : (inputs : InputsCall) (asked : FilesAsked) (files : FilesGiven) (aim : Aim) (snapshot : List ℕ) (told : IsTrue inputs.tells)
     (are : AreFiles inputs asked files)
     (is : IsAim asked.raw_at files aim) (has : HasTexts files aim) (is_job : IsJob (job_for files aim snapshot) aim.board aim.algorithms)

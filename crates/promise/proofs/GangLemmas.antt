@@ -1,4 +1,4 @@
--- What a call for several benches promises: for each of them, by its own status and line, it is a call of `resume`.
+-- What a call for several benches promises: for each bench it is a call of `resume`, by that bench's own status and line.
 use Rattle.std.proofs.Common.{◌≡◌, ◌≢◌, ◌⊎◌, ⊎_elim, inl, inr, ◌∙◌, refl, sym, ap, subst, ◌+◌, ◌<◌, arith, cond, Bool, true, false, IsTrue}
 use Rattle.std.proofs.Common.{ℕ, zero, suc, List, [], ◌∷◌, ◌++◌, append-nil, length, get_or, map, Option, Some, None}
 use Rattle.std.proofs.lemmas.Bool.{cases_eq, ne_eqb, false≢true}
@@ -79,7 +79,7 @@ module _ (status : ℕ) (s t : BenchState) (keeps : KeepsOn status s t) (closes 
 
 -- ---- one bench
 
--- what is answered for the bench of this number, which is done, or isn't for this reason
+-- the answer for the bench with this number: done, or refused for this reason
 abbrev answer_of : ℕ → Option Refusal → BenchAnswer
 answer_of number why = record { status = status_before why 0; line = target_line number why }
 
@@ -103,7 +103,7 @@ bench_keeps s t number why of bytes keeps closes finished = record {
   );
 }
 
--- ---- all of them, counted from a number on
+-- ---- all benches, numbered from `number` on
 
 abbrev answers_from : ℕ → List (Option Refusal) → List BenchAnswer
 answers_from number [] = []
@@ -149,7 +149,7 @@ part_of false text before after took = record { said = []; rest = text; is = ref
 -- ---- each of them
 
 module _ {B : Type 0} (G : Ghosts B) where
-  -- what is known of each place is known of each bench
+  -- what holds at each place holds of each bench
   each_from : (number : ℕ) (benches after : List B) (answers : List BenchAnswer) → length after ≡ length benches → length answers ≡ length benches
       → ((i : ℕ) (b : B) (a : BenchAnswer) → i < length benches
       → BenchKeeps (G.state (get_or benches i b)) (G.state (get_or after i b)) (i + number) (get_or answers i a))
@@ -175,7 +175,7 @@ module _ {B : Type 0} (G : Ghosts B) (told : IsTrue G.tells) (bytes : (b : B) �
   abbrev Kept : Type 0
   Kept = GangKeeps G benches after out.tells out.before.taken out.after.taken status
 
-  -- it was refused as a whole
+  -- the call was refused as a whole
   refused_call : (r : Refusal) → is_of_gang r ≡ true → status ≡ status_of r → (status ≡ 1) ⊎ (status ≡ 2) → TookNothing out
       → ((i : ℕ) (b : B) → i < length benches → ClosesEach (status_of r) (G.state (get_or benches i b)) (G.state (get_or after i b)))
       → AllKeep G status benches after → length after ≡ length benches → Kept

@@ -11,7 +11,7 @@ use Rattle.promise.proofs.StopLemmas.{its, only_reads, untouched, adds_nothing}
 use Rattle.promise.proofs.CarryLemmas.{goes_on}
 use Rattle.promise.proofs.BeginLemmas.{programs, begins}
 
--- by which job, where it isn't refused
+-- a call is refused, or keeps its promise by a job that it names
 pub resumes : (command : Command) (call : answers.Call) → IsTrue call.bench.tells → IsTrue call.inputs.tells → AreBytes call.bench.before.file
     → Answers call (Some command) → Resumes command (its call)
 resumes (program asked) call told told_files bytes it = programs asked call told told_files bytes it
@@ -26,7 +26,7 @@ resumes (inspect flm) call told told_files bytes it = tt
 resumes (dump form board) call told told_files bytes it = tt
 resumes (demo seed) call told told_files bytes it = tt
 
--- the promise alone
+-- the promise alone, without that job
 alone : {R P : Type 0} {T : P → Type 0} → R ⊎ ((p : P) × T p) → R ⊎ P
 alone {R} {P} {T} either = ⊎_elim (λ (r : R). inl r) (λ (it : (p : P) × T p). inr it.0) either
 

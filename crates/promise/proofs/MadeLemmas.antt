@@ -37,7 +37,7 @@ is_told m = record {
   as_told = (left_as_told m.history m.file.items m.cells.items m.operation m.in_step m.cells.items).1 (same_all m.operation m.cells.items);
 }
 
--- a bench that lost its power is entered with what was left of it
+-- a bench that lost its power is entered with what the loss left
 pub entered : (ended lost : MemoryBench) → Left (bench_of ended) (bench_of lost).file (bench_of lost).cells → IsAtRest (bench_of lost) → (aim : CampaignJob)
     → IsEntered aim (bench_of ended) (bench_of ended).moment (bench_of lost)
 entered ended lost at rest aim = record {

@@ -1,4 +1,4 @@
--- The moment at which a call ends isn't before the one at which it began.
+-- A call doesn't end before the moment at which it began.
 use Rattle.std.proofs.Common.{◌≢◌, ◌≤◌, ◌⊎◌, ⊎_elim, ℕ, Bool, IsTrue, Some}
 use Rattle.std.proofs.lemmas.Bool.{cases_eq}
 use Rattle.board_file.specs.Limits.{size_of}

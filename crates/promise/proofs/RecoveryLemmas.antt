@@ -1,4 +1,4 @@
--- Each call of a campaign recovers the job of the first, by what all of them keep and how each comes to its end.
+-- Each call of a campaign recovers the job of the first call, because each keeps its promise and completes.
 use Rattle.std.proofs.Common.{◌≡◌, ◌⊎◌, ⊎_elim, inl, inr, ◌∙◌, sym, ℕ, List, [], ◌∷◌, length, Option}
 use Rattle.bench_model.specs.State.{BenchState}
 use Rattle.campaign.specs.Stops.{last_at}

@@ -1,4 +1,4 @@
--- A job is right by whichever of its texts: it has one.
+-- A job has one text and one board, so it is right by each of them if it is right by one.
 use Rattle.std.proofs.Common.{◌≡◌, sym, ap, subst, ◌∙◌, Ok}
 use Rattle.board_file.specs.Shown as board
 use Rattle.board_file.specs.Text.{reading}

@@ -10,7 +10,7 @@ abbrev pub its : answers.Call → Call
 its call = call_of call.inputs.before.stands call.bench.before call.bench.after (fault_counts call.inputs.before.faults call.inputs.after.faults)
     (fault_counts call.out.before.faults call.out.after.faults) call.status
 
--- a call that leaves only what a stop at its entry might have left
+-- a stop in the call leaves only what a stop at its entry may leave
 abbrev pub LeavesAsEntered : answers.Call → Type 0
 LeavesAsEntered call = AtEachStop (its call) (λ moment file cells. Left call.bench.before file cells)
 

@@ -1,4 +1,4 @@
--- What holds of the call that is made holds of the call that is answered, where their parts are the same.
+-- The call that is made and the call that is answered have the same parts, so what holds of one holds of the other.
 use Rattle.std.proofs.Common.{◌≡◌, ◌≤◌, ◌⊎◌, ⊎_elim, inl, inr, subst, sym, arith, ℕ, Bool, IsTrue, List, Option, Some, None}
 use Rattle.bench_model.specs.declared.bench.Bench.{Ghosts}
 use Rattle.bench_model.specs.State.{BenchState}
@@ -71,7 +71,7 @@ module _ {n began ended : ℕ} {tb ti to te : Bool} {s t : BenchState} {i j : In
         (subst AreBytes (sym same) bytes) it,
   )
 
--- words that ask for nothing are answered 2 or 1
+-- words that fit no command are answered 2 or 1
 says_unfit : (n : ℕ) (err : answers.SinkCall) (answer : Answer) → (answer ≡ refused usage) ⊎ (answer ≡ refused out_of_memory) → SaysOn n err answer
     → (n ≡ 2) ⊎ (n ≡ 1)
 says_unfit n err answer which says = ⊎_elim

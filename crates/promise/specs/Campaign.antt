@@ -41,10 +41,10 @@ abbrev pub AllKeep : List Later → Type 0
 AllKeep [] = Unit {0}
 AllKeep (next ∷ rest) = KeepsPromise (command_to next.goal) next.call × AllKeep rest
 
--- A later call is safe, and reaches its close at the moment `closing`. A stop leaves one of three things: the device untouched; the job
--- whole; or the job closed, with the goal of the last call that had reached its close by then. Before the close a stop leaves what one at
--- the entry may leave, or the job whole; from the close on the cells are the goal. On a free file, or with status 1, 9, 11 or 12, the
--- call never reaches its close. With status 0, its file was whole at the entry, and it left its own goal.
+-- A later call is safe. `closing` is the moment of its close, which may be after its end. A stop leaves one of three things: the device
+-- untouched; the job whole; or the job closed, with the goal of the last call that had reached its close by then. Before the close a stop
+-- leaves what one at the entry may leave, or the job whole; from the close on the cells are the goal. On a free file, or with status 1,
+-- 9, 11 or 12, the call never reaches its close. With status 0, its file was whole at the entry, and it left its own goal.
 pub record IsSafeCall (start : BenchState) (job : Job) (last : Option (List ℕ)) (next : Later) (closing : ℕ) : Type 0 where
   pub stopped : IsSafe start (campaign_job job) last next.call.old next.call.new closing (goal_of next.goal job)
   pub before : AtEachStop next.call (λ moment file cells. moment < closing → Left next.call.old file cells ⊎ IsWhole job.body file)
