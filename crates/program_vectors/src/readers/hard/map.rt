@@ -1,9 +1,9 @@
-//! Lays records of 16 bytes into a map, and reads or merges images, in orders that are hard on a table of runs:
-//! `program_vectors map WORD.. RECORDS`. The words: an order (`rising`, `falling`, `outward`, by turns at both ends, or
-//! `shuffled`), `apart` (32 addresses a record, so that none touch), `merged` (each second record in a map of its own,
-//! and the two merged), `file` (the records as S-records, read as a file), `text` (the same with the first byte of each
-//! record alone). It prints the runs that come of it. `program_vectors map hostile` does some of each, shuffled records of a
-//! file among them, and what would be slow if a body moved more than it must.
+//! Puts records of 16 bytes into a map, and reads or merges images, in orders that are hard on a table of runs: `program_vectors map WORD..
+//! RECORDS`. A word is an order (`rising`, `falling`, `outward`, by turns at both ends, or `shuffled`) or one of these: `apart` (32
+//! addresses a record, so that none touch), `merged` (each second record in a map of its own, and the two merged), `file` (the records as
+//! S-records, read as a file), `text` (the same with the first byte of each record alone). It prints the runs that come of it.
+//! `program_vectors map hostile` does some of each, shuffled records of a file among them, and what would be slow if a body moved more than
+//! it must.
 ghost use Rattle.std.specs.Prelude.{◌≤◌, length};
 
 use crate::print::Piece::{Count, Text};
@@ -22,7 +22,7 @@ const DIGITS: [u8; 16] = *b"0123456789ABCDEF";
 /// The least address.
 const LOW: u32 = 0x0800_0000;
 
-/// Where the long run begins that short ones are joined to, and how long it is: 32 MiB.
+/// The beginning of the long run that short ones are joined to, and its length: 32 MiB.
 const MIDDLE: u32 = 0x8000_0000;
 
 const LONG: usize = 1 << 25;
@@ -39,7 +39,7 @@ enum Order {
     Shuffled,
 }
 
-/// What is laid.
+/// What is put into the map.
 #[derive(Clone, Copy)]
 struct Plan {
     order: Order,
@@ -173,7 +173,7 @@ fn lay_long(alloc: Global, map: &mut ByteMap) -> Result<()> {
     Ok(())
 }
 
-/// Lays a long run, with a short one joined to it again and again, before it and behind it by turns.
+/// Puts a long run into a map, and joins a short one to it again and again, before it and after it by turns.
 fn bridge(alloc: Global, map: &mut ByteMap, count: u32) -> Result<()> {
     lay_long(alloc, map)?;
     for number in 0..count.min(MOST) {
@@ -198,7 +198,7 @@ enum Way {
     Bridge,
 }
 
-/// Lays into an empty map what comes of a plan.
+/// Puts the records of a plan into an empty map.
 fn lay(alloc: Global, map: &mut ByteMap, way: Way, plan: &Plan) -> Result<()> {
     match way {
         Way::Laid => lay_records(map, plan, None),
@@ -245,7 +245,7 @@ fn try_apart(rt: &HostRuntime, order: Order) -> Result<()> {
     try_plan(rt, Way::Text, &plan)
 }
 
-/// Prints what comes of so many shuffled records, or of so many pieces.
+/// Prints the map that comes of `records` shuffled records, or of this number of pieces.
 fn try_close(rt: &HostRuntime, way: Way, records: u32) -> Result<()> {
     let plan = Plan {
         order: Order::Shuffled,
