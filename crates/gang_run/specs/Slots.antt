@@ -102,8 +102,8 @@ HasJob _ found = IsSome found
 
 -- ---- a turn
 
--- what a turn needs of a target that hasn't ended: the target fits its window and its bench, and the only file that a stop may leave stands
--- for its job
+-- what a turn needs of a target that hasn't ended: it fits its window and its bench, and the only file that a stop may leave stands for its
+-- job
 pub record Ready (tells : Bool) (x : GangTarget) (arena : List (List ℕ)) (b : BenchState) : Type 0 where
   pub fit : Fit tells x.player arena b
   pub size : size_of x.job.board.regions ≡ size_for x.player

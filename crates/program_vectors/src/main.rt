@@ -2,8 +2,8 @@
 //! whole jobs on real files (`host`).
 //!
 //! `program_vectors JOB CELLS COMMAND WORDS` goes through all of them, in that order. It ends as `host` does, which runs these words last.
-//! Other words ask for one part alone: `rows FILE..` goes through files of rows (`memory`); `elf WORD..`, `map WORD..` and `symbols COUNT`
-//! do only what is hard on a reader (`readers::hard`); `images BINARY IMAGE..` compares these image files. The time that each takes is
+//! Other words ask for one part alone. `rows FILE..` goes through files of rows (`memory`). `elf WORD..`, `map WORD..` and `symbols COUNT`
+//! do only what is hard on a reader (`readers::hard`). `images BINARY IMAGE..` compares these image files. The time that each takes is
 //! measured from outside.
 #![tactic(auto)]
 

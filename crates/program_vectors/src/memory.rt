@@ -1,7 +1,7 @@
-//! Runs commands in memory through the top call, row by row, from files of lines (`lines`). Each file begins without files of its own. It
-//! prints each row's name. Of each call it prints what the call put on standard output and on standard error, its status, and what it left
-//! of the cells and of the job file. Where calls are stopped at each of their moments, it ends with an error at the first stop that leaves
-//! anything but a job that can be carried on or back.
+//! Runs commands in memory through the top call, row by row, from files of lines (`lines`). No files exist at the beginning of a file of
+//! lines. It prints each row's name. Of each call it prints what the call put on standard output and on standard error, its status, and
+//! what it left of the cells and of the job file. Where calls are stopped at each of their moments, every stop must leave a job that can be
+//! carried on or back. The first that leaves anything else ends the run with an error.
 //!
 //! GCC 12.2 for Arm made the binary files that the rows name, except those of UF2, the job files and the cells. The blocks of UF2 are
 //! written out by the fields of Microsoft's specification, as `uf2conv` does it, with 256 bytes and a family. The algorithms `*.flm` are in

@@ -1,8 +1,8 @@
-//! Answers questions about files: ELF files and an FLM file, as a compiler, a linker or a hand made them and with some bytes changed;
-//! boards with one key changed; and other texts of boards. It prints each question with its answer. Before that it reads what is hard on
-//! the readers of ELF files and of images (`hard`). After that it reads the image files of a list, which other tools wrote, and compares
-//! their bytes with the binary file that the same tools make of them. Last it goes through sweeps: every prefix of a file, every byte of it
-//! changed, large numbers in its fields. It counts their answers.
+//! Answers questions about files. First it reads what is hard on the readers of ELF files and of images (`hard`). Then come ELF files and
+//! an FLM file, as a compiler, a linker or a hand made them and with some bytes changed. They are followed by boards with one key changed
+//! and other texts of boards. It prints each question with its answer. Then it reads the image files of a list, which other tools wrote,
+//! and compares their bytes with the binary file that the same tools make of them. Last it goes through sweeps: every prefix of a file,
+//! every byte of it changed, large numbers in its fields. It counts their answers.
 
 mod board;
 mod digest;

@@ -40,7 +40,7 @@ enum Left {
     Finished,
 }
 
-/// How often each kind was left. No kind may come before an earlier one of this order.
+/// How often each kind was left.
 #[derive(Clone, Copy)]
 struct Tally {
     untouched: u64,

@@ -50,7 +50,7 @@ fn works(command: &str) -> bool {
 }
 
 /// The outcome of a call where nothing fails: what it says, the bench as it leaves it, whether its job is then whole or finished, and the
-/// cells to which `resume` brings the job.
+/// cells after `resume`.
 #[derive(Drop)]
 pub struct Aims {
     works: bool,
@@ -80,7 +80,7 @@ impl Aims {
         })
     }
 
-    /// What is left on a bench on which the call didn't reach its end, and none where that may not be left.
+    /// What is left on a bench on which the call didn't reach its end. It is none where that may not be left.
     pub fn look(&self, trial: &Trial, bench: &MemoryBench) -> Option<Left> {
         let old_cells = bench.cells() == trial.cells.as_slice();
         let same_job = body_of(bench.file()) == body_of(self.bench.file());

@@ -13,8 +13,9 @@ use anyhow::{Context, Result, bail, ensure};
 use bench_model::{MemoryBench, Pick};
 use std::alloc::Global;
 
-/// What happens to the calls of a command. Either each of them in turn is the last one, with this pick. Or each tenth is, with an algorithm
-/// that breaks its duties, where the job of the one that keeps them ended so. Or each call on this object fails in its turn.
+/// What happens to the calls of a command. `Stops`: each call in turn is the last one, with this pick. `Tenths`: each tenth call is the
+/// last one, with an algorithm that breaks its duties; the job with the algorithm that keeps them ended as given. `Fails`: each call on
+/// this object fails in its turn.
 #[derive(Clone, Copy)]
 enum Way<'a> {
     Stops(Pick),
@@ -22,8 +23,8 @@ enum Way<'a> {
     Fails(&'a str),
 }
 
-/// How often each kind was left, and how often each status came: of calls that failed, of `resume` with the job's own algorithm, and of
-/// `resume` with the algorithm that keeps its duties in its place.
+/// How often each kind was left, and how often each status came. There are the statuses of calls that failed, of `resume` with the job's
+/// own algorithm, and of `resume` with the algorithm that keeps its duties.
 #[derive(Clone, Copy)]
 struct Ends {
     left: Counts,

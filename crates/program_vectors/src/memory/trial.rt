@@ -7,8 +7,8 @@ use anyhow::{Context, Result, bail};
 use bench_model::{Bench, MemoryBench};
 use std::alloc::Global;
 
-/// The numbers of the calls that fail, from 1 on, and 0 for none: two on the job file, one on the cells, a put on standard output, a put on
-/// standard error, and the taking of a file.
+/// The numbers of the calls that fail, from 1 on, and 0 for none. They count calls on the job file (two may fail), calls on the cells, puts
+/// on standard output, puts on standard error, and files that are taken.
 #[derive(Clone, Copy)]
 pub struct Fails {
     pub files: [u64; 2],
@@ -30,8 +30,8 @@ impl Fails {
         }
     }
 
-    /// Lets the call of this number fail: a call on the job file or on the cells, a put on standard output or on standard error, or the
-    /// taking of a file.
+    /// Lets the call of this number on an object fail. The object is the job file, the cells, standard output, standard error, or the files
+    /// that are taken.
     pub fn set(&mut self, object: &str, number: u64) -> Result<()> {
         match object {
             "file" => self.files = [number, 0],
@@ -45,8 +45,8 @@ impl Fails {
     }
 }
 
-/// What a row has: the files; the room for the job file and for the record of the calls; the job file, the cells and the open operation
-/// with which a bench begins; and the calls that fail.
+/// What a row has: its files, the room for the job file and for the record of the calls, and the calls that fail. A bench begins with the
+/// row's job file, cells and open operation.
 #[derive(Drop)]
 pub struct Trial {
     pub files: Files,

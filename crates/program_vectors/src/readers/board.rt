@@ -86,7 +86,7 @@ fn name_in(key: &str, in_region: bool) -> Option<&str> {
     }
 }
 
-/// Appends a line of a board. If it has the key, it gets the other value, or is left out where that value is empty.
+/// Appends a line of a board. A line with the key gets the other value, or is left out where that value is empty.
 fn push_line(text: &mut String, line: &str, key: Option<&str>, value: &str) -> Result<()> {
     let name = line.split(" =").next().unwrap_or("");
     if key != Some(name) {
@@ -100,7 +100,7 @@ fn push_line(text: &mut String, line: &str, key: Option<&str>, value: &str) -> R
     Ok(())
 }
 
-/// The text of a board in which one key has another value, or is left out where that is empty.
+/// The text of a board with another value for one key. Where the value is empty, the key is left out.
 fn changed(alloc: Global, base: &str, key: &str, value: &str) -> Result<String> {
     let mut text = String::new(alloc);
     let mut in_region = false;

@@ -367,8 +367,7 @@ fn beside_first(files: &Files) -> Result<([bool; 4], bool), Fail> {
     Ok((kept, changes(&mut first[0], files)))
 }
 
-/// Whether other benches are kept from the first one's job file, from its cells by a link, from its cells as a job file, and from its job
-/// file as cells.
+/// Whether other benches can't use the first one's job file, its cells by a link, its cells as a job file, and its job file as cells.
 fn kept_from(rt: HostRuntime, first: &[FileBench]) -> Result<[bool; 4], Fail> {
     Ok([
         beside(rt, first, ("first_job", "second_cells"), job_alone_is_kept)?,

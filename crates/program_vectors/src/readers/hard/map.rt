@@ -1,9 +1,8 @@
 //! Puts records of 16 bytes into a map, and reads or merges images, in orders that are hard on a table of runs: `program_vectors map WORD..
-//! RECORDS`. A word is an order (`rising`, `falling`, `outward`, by turns at both ends, or `shuffled`) or one of these: `apart` (32
-//! addresses a record, so that none touch), `merged` (each second record in a map of its own, and the two merged), `file` (the records as
-//! S-records, read as a file), `text` (the same with the first byte of each record alone). It prints the runs that come of it.
-//! `program_vectors map hostile` does some of each, shuffled records of a file among them, and what would be slow if a body moved more than
-//! it must.
+//! RECORDS`. A word is an order (`rising`, `falling`, `outward`, by turns at both ends, or `shuffled`) or a way. `apart` gives each record
+//! 32 addresses, so that none touch. `merged` puts each second record into a map of its own, and merges the two. `file` reads the records
+//! as a file of S-records, and `text` does so with the first byte of each record alone. It prints the runs of the map. `program_vectors map
+//! hostile` does some of each, shuffled records of a file among them, and what would be slow if a body moved more than it must.
 ghost use Rattle.std.specs.Prelude.{◌≤◌, length};
 
 use crate::print::Piece::{Count, Text};
@@ -80,7 +79,7 @@ impl Plan {
     }
 }
 
-/// A number below `records` that looks like any other: where `records` is a power of two each comes once.
+/// A number below `records` that looks drawn. Where `records` is a power of two, each number comes once.
 fn shuffle(number: u32, records: u32) -> u32 {
     let mixed = (number ^ (number >> 9)).wrapping_mul(0x9E37_79B1) % records.max(1);
     (mixed ^ (mixed >> 7)).wrapping_mul(0x85EB_CA6B) % records.max(1)
@@ -136,7 +135,7 @@ fn push_record(text: &mut Vec<u8>, at: u32, bytes: &[u8]) -> Result<()>
     Ok(())
 }
 
-/// Adds S-records with the first bytes of each record of a plan, as many as are asked for.
+/// Adds an S-record with these bytes for each record of a plan, and an end record.
 fn push_records(text: &mut Vec<u8>, plan: &Plan, bytes: &[u8]) -> Result<()>
     requires { length bytes.now ≤ 250 }
 {
@@ -147,7 +146,7 @@ fn push_records(text: &mut Vec<u8>, plan: &Plan, bytes: &[u8]) -> Result<()>
     Ok(())
 }
 
-/// Puts the image of a text of such S-records in place of a map.
+/// Replaces a map by the image of such S-records.
 fn read_text(alloc: Global, map: &mut ByteMap, plan: &Plan, bytes: &[u8]) -> Result<()>
     requires { length bytes.now ≤ 250 }
 {

@@ -21,8 +21,8 @@ const TAIL_LEN: usize = 4;
 pub enum Names {
     /// By 44 random bytes each.
     Random,
-    /// By 44 bytes each, which std's `FoldHasher` takes to one place of a map: five blocks of eight bytes, each one of a
-    /// pair that leaves the hash in one state, and a tail of four. A table has the pairs, and then the tails.
+    /// By 44 bytes each, which std's `FoldHasher` takes to one place of a map. A name has five blocks of eight bytes and a tail of four.
+    /// Each block is one of a pair that leaves the hash in the same state. A table has the pairs, and then the tails.
     Colliding,
     /// All by one string of a mebibyte.
     One,

@@ -11,7 +11,7 @@ use std::alloc::{AllocError, Global};
 /// The most symbols here: 64 MiB.
 const MOST: u32 = 1 << 22;
 
-/// How many symbols an FLM file is asked for.
+/// How many symbols the reader of FLM files looks for.
 const SOUGHT: u32 = 7;
 
 /// The sections: none, the strings and the symbols.
