@@ -43,7 +43,7 @@ slot_togo (slot.Open x) = togo x.player
 
 -- ---- what a slot shows
 
--- a session wasn't opened for a reason other than out of memory
+-- the reason why a session wasn't opened is another one than out of memory
 abbrev pub OpensWithMemory : SessionFault → Type 0
 OpensWithMemory session.OutOfMemory = ⊥
 OpensWithMemory (session.Open opening.OutOfMemory) = ⊥
@@ -132,7 +132,7 @@ pub record SlotTurns {B : Type 0} (G : Ghosts B) (old : Slot) (arena : List (Lis
   pub ended : slot_turn old ≡ turn.Ended → (new ≡ old) × (arena' ≡ arena) × (bench' ≡ bench)
   pub goes : SlotGoes G.tells old arena (G.state bench) new arena' (G.state bench')
 
--- one turn: while a call runs, at most `steps` of its steps; otherwise one host action
+-- one turn: while a call runs, its next steps, at most `steps` of them; otherwise one host action
 abbrev pub SlotTakes : Bool → (steps : ℕ) → Slot → List (List ℕ) → BenchState → Slot → List (List ℕ) → BenchState → Type 0
 SlotTakes tells steps (slot.Refused e) arena s new arena' t = Unit {0}
 SlotTakes tells steps (slot.Open x) arena s new arena' t = IsUnended x.player.place → (y : GangTarget) × (new ≡ slot.Open y)

@@ -7,8 +7,8 @@ use std::io;
 use std::io::ErrorKind;
 
 /// A job file and a cells file with a cache, as an operating system has one: changes wait in it until they are synced. The power is lost
-/// after `calls` calls. This disk doesn't tell its contents, since a loss leaves more of its cells than `Disk` speaks of. It is for tests
-/// of whole jobs.
+/// after `calls` calls. This disk doesn't tell its contents, since a loss may leave cells that `Disk` doesn't describe. It is for tests of
+/// whole jobs.
 #[derive(Drop)]
 pub struct CachedDisk {
     alloc: Global,

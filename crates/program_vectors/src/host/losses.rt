@@ -155,7 +155,7 @@ impl Job {
         Ok(())
     }
 
-    /// Looks at what was left. A whole job is carried on, and from the same files back.
+    /// Looks at what was left. A whole job is carried on and, from the same files, back.
     fn carry_both(&self, left: &Remains) -> Result<Left> {
         let what = self.look(left)?;
         if what == Left::Whole {

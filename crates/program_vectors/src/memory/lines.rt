@@ -25,8 +25,8 @@
 //!   `resume`, and from the same stop back by `revert`. So is the job that a finished `begin` leaves.
 //! - `tenths PICK WORDS`: calls that are stopped at every tenth of their calls, with an algorithm that breaks its duties. A job that is
 //!   left is resumed as it is, and with the algorithm A1 in it.
-//! - `faults WORDS`: in turn fails each call on the job file and on the cells, each put on either stream and each taking of a file. A job
-//!   that is left is resumed.
+//! - `faults WORDS`: calls in which each call on the job file and on the cells, each put on either stream and each taking of a file fails
+//!   in turn. A job that is left is resumed.
 //! - `pairs COUNT WORDS`: calls of `program`. Every pair of the first COUNT calls on the job file fails. Each job is then carried to its
 //!   end.
 //! - `words PATH`: prints each line of a file, and what its words ask for.
