@@ -45,7 +45,7 @@ impl CachedDisk {
         })
     }
 
-    /// These files in a new run, after a run that was killed. From now on only `calls` calls go through.
+    /// Begins a new run with the same files, after a run that was killed. From now on only `calls` calls go through.
     pub fn begin_again(self, calls: u64) -> CachedDisk {
         let CachedDisk {
             alloc,

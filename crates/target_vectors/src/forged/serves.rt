@@ -69,7 +69,7 @@ fn put_code_on(rt: &HostRuntime, board: &Board) -> Result<()> {
 }
 
 /// The questions on the small board: A1 with the shortest and the longest page, with a page too short and one too long, and algorithms that
-/// don't do as they should.
+/// break their duties.
 const SMALL: [(Kind, u32); 10] = [
     (Kind::A1, 64),
     (Kind::A1, 2776),

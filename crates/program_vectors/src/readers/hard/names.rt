@@ -16,17 +16,17 @@ const BLOCK_LEN: usize = 8;
 /// The bytes with which a colliding name ends.
 const TAIL_LEN: usize = 4;
 
-/// What the sections are called.
+/// The kind of names that the sections have.
 #[derive(Clone, Copy)]
 pub enum Names {
-    /// By 44 random bytes each.
+    /// Names of 44 random bytes each.
     Random,
-    /// By 44 bytes each, which std's `FoldHasher` takes to one place of a map. A name has five blocks of eight bytes and a tail of four.
-    /// Each block is one of a pair that leaves the hash in the same state. A table has the pairs, and then the tails.
+    /// Names of 44 bytes each, which std's `FoldHasher` takes to one place of a map. A name has five blocks of eight bytes and a tail of
+    /// four. Each block is one of a pair that leaves the hash in the same state. A table has the pairs, and then the tails.
     Colliding,
-    /// All by one string of a mebibyte.
+    /// One string of a mebibyte for all sections.
     One,
-    /// By strings that begin at each byte of a mebibyte and end with it.
+    /// Strings that begin at each byte of a mebibyte and end with it.
     Overlapping,
 }
 
