@@ -209,7 +209,7 @@ module _ {B : Type 0} (G : Ghosts B) (words : ℕ) (benches after : List B) (out
     memory_keeps i d less = looked_on status (G.state (get_or benches i d)) (G.state (get_or after i d)) (wants.looked i d less).pairs
         (λ is_zero. omega (arith, memory_is, is_zero))
 
-  -- all have ended
+  -- all targets have ended
 
   module _ (fits : DoFit words (length benches)) (counts : length after ≡ length benches) (have : HaveEnded G benches after out err status) where
     pub ended_answers : Answers G words benches after out err status

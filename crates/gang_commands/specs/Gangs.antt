@@ -26,7 +26,7 @@ pub record HasNoMemory {B : Type 0} (G : Ghosts B) (benches benches' : List B) (
   pub prints : TookNothing out
   pub says : Says status err (refused out_of_memory)
 
--- All targets have ended.
+-- All targets have ended, and the call said their lines and a status.
 pub record HaveEnded {B : Type 0} (G : Ghosts B) (benches benches' : List B) (out err : SinkCall) (status : ℕ) : Type 0 where
   pub ends : List Outcome
   pub each : length ends ≡ length benches

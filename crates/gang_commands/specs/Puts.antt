@@ -56,7 +56,7 @@ abbrev pub PutsEnds : SinkCall → List Outcome → Result ℕ OutputFault → T
 PutsEnds out ends (Ok status) = TookAll out (lines_of ends) × (status ≡ status_in ends)
 PutsEnds out ends (Err e) = TookPart out (lines_of ends)
 
--- All targets of a gang had turns until they ended, and their ends were said.
+-- All targets of a gang had turns until they ended, and the call said their ends.
 pub record Runs {B : Type 0} (G : Ghosts B) (gang : Gang) (benches benches' : List B) (out err : SinkCall) (status : ℕ) : Type 0 where
   pub now : Gang
   pub since : AllSince G gang benches now benches'

@@ -56,8 +56,8 @@ pub record Carries {B : Type 0} (G : Ghosts B) (s : BenchState) (x : Outcome) (t
   -- the file stands for the job; where the target is done, the job is closed
   pub file : FileEnd (body_of stands.text) x.end t.file
   pub closed : x.end ≡ ended.Done → t.operation ≡ None
-  -- Before the target's close a stop leaves what one at entry may leave, or the whole job. From the close on it leaves the whole job, or
-  -- the closed one with the cells at the goal. A device fault, a failed call and a mismatch come before the close.
+  -- Before the target's close a stop leaves what one at entry may leave, or the whole job. From the close on it leaves the job whole or
+  -- closed, with the cells at the goal. A target that ends by a device fault, a failed call or a mismatch never reaches its close.
   pub turn : ℕ
   pub no_close : has_no_close x.end ≡ true → t.moment < turn
   pub stops : WorkStops s t turn (body_of stands.text) (overlaid job.image job.board.regions stands.text.snapshot)

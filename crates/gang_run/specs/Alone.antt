@@ -16,9 +16,9 @@ use Rattle.gang_run.specs.declared.slot.Slot.TheVariants as slot
 use Rattle.gang_run.specs.Slots.{Counts}
 
 -- The end of target `x`, its cells and its moments are an outcome of its own script, as if it ran alone. The job file is closed where the
--- target is done; otherwise it still stands for the job. Before the moment `at` a stop leaves the whole job. From `at` on it leaves the
--- whole job, or the closed file with the cells at the goal. A device fault, a failed call and a mismatch come before `at`. A fault was
--- counted exactly where the target ended by it.
+-- target is done; otherwise it still stands for the job. Before the moment `at` a stop leaves the whole job. From `at` on it leaves the job
+-- whole or closed, with the cells at the goal. A target that ends by a device fault, a failed call or a mismatch never reaches `at`. A
+-- fault was counted exactly where the target ended by it.
 pub record EndsAlone (a : Stand) (x : GangTarget) (s : BenchState) (new : Slot) (t : BenchState) (body : List ℕ) : Type 0 where
   pub target : GangTarget
   pub is : new ≡ slot.Open target

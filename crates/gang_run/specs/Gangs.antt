@@ -17,7 +17,7 @@ use Rattle.gang_run.specs.Slots.{slot_turn, slot_togo, IsSlot, IsReady, SlotTurn
 abbrev pub slot_at : Gang → ℕ → Slot
 slot_at g i = get_or g.slots.items i (slot.Refused (ended.Survey survey.StoreFault))
 
--- two targets with scripts have two different windows of RAM
+-- two targets with scripts have different windows of RAM
 abbrev pub OtherWindow : Slot → Slot → Type 0
 OtherWindow (slot.Refused e) other = Unit {0}
 OtherWindow (slot.Open x) (slot.Refused e) = Unit {0}

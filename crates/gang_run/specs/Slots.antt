@@ -43,7 +43,7 @@ slot_togo (slot.Open x) = togo x.player
 
 -- ---- what a slot shows
 
--- a session wasn't opened for a reason other than out of memory
+-- the reason why a session wasn't opened is another one than out of memory
 abbrev pub OpensWithMemory : SessionFault → Type 0
 OpensWithMemory session.OutOfMemory = ⊥
 OpensWithMemory (session.Open opening.OutOfMemory) = ⊥
@@ -102,8 +102,8 @@ HasJob _ found = IsSome found
 
 -- ---- a turn
 
--- what a turn needs of a target that hasn't ended: the target fits its window and its bench, and the only file that a stop may leave stands
--- for its job
+-- what a turn needs of a target that hasn't ended: it fits its window and its bench, and the only file that a stop may leave stands for its
+-- job
 pub record Ready (tells : Bool) (x : GangTarget) (arena : List (List ℕ)) (b : BenchState) : Type 0 where
   pub fit : Fit tells x.player arena b
   pub size : size_of x.job.board.regions ≡ size_for x.player
@@ -132,7 +132,7 @@ pub record SlotTurns {B : Type 0} (G : Ghosts B) (old : Slot) (arena : List (Lis
   pub ended : slot_turn old ≡ turn.Ended → (new ≡ old) × (arena' ≡ arena) × (bench' ≡ bench)
   pub goes : SlotGoes G.tells old arena (G.state bench) new arena' (G.state bench')
 
--- one turn: while a call runs, at most `steps` of its steps; otherwise one host action
+-- one turn: while a call runs, its next steps, at most `steps` of them; otherwise one host action
 abbrev pub SlotTakes : Bool → (steps : ℕ) → Slot → List (List ℕ) → BenchState → Slot → List (List ℕ) → BenchState → Type 0
 SlotTakes tells steps (slot.Refused e) arena s new arena' t = Unit {0}
 SlotTakes tells steps (slot.Open x) arena s new arena' t = IsUnended x.player.place → (y : GangTarget) × (new ≡ slot.Open y)

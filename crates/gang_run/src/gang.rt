@@ -31,8 +31,8 @@ pub struct Asked {
 
 impl Gang {
     /// Opens the job of each bench in order and surveys it to its new goal. It syncs each job file first. A refusal is the end of that
-    /// target, unless it is out of memory. Then `open` makes the RAM of all targets that go on, in one allocation. There are 1 to 16
-    /// benches.
+    /// target, except out of memory, which ends the opening. Then `open` makes the RAM of all targets that go on, in one allocation. There
+    /// are 1 to 16 benches.
     ///
     /// # Errors
     ///
@@ -60,8 +60,8 @@ impl Gang {
         Ok(Gang { arena, slots })
     }
 
-    /// One turn of a target: while a call runs, at most `steps` of its steps; otherwise one host action. A turn of a target that has ended
-    /// changes nothing. It touches only the target's own bench and window, and takes no memory.
+    /// One turn of a target: while a call runs, its next steps, at most `steps` of them; otherwise one host action. A turn of a target that
+    /// has ended changes nothing. A turn touches only the target's own bench and window, and takes no memory.
     pub fn turn<B: Bench>(&mut self, benches: &mut [B], target: usize, steps: u64) -> Turn
         requires gang { IsGang self.old }
         requires count { length benches.old ≡ length self.old.slots.items }

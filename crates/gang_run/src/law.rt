@@ -22,7 +22,7 @@ pub fn jobs_are_lent()
     ensures { (g : Gang) (i : ℕ) (found : Option (Bor Job)) → IsGang g → IsSlotJob (slot_at g i) found → HasJob (slot_end (slot_at g i)) found }
 {}
 
-/// Before the first turn of a list each target is where it was.
+/// An empty list of turns leaves each target where it is.
 pub fn turns_begin<B: Bench>()
     ensures { (g : Gang) (benches : List B) → IsGang g → length benches ≡ length g.slots.items → AreReady B.Bench g benches
         → Playing B.Bench g benches g benches }
@@ -35,7 +35,7 @@ pub fn turns_go_on<B: Bench>()
         → Playing B.Bench old benches new after }
 {}
 
-/// After any list of turns, a target that had made no move before them and has ended is one that ended as it could alone.
+/// After any list of turns, each target that has ended, and had made no move before them, ended as it could alone.
 pub fn targets_end_as_alone<B: Bench>()
     ensures { (old new : Gang) (benches after : List B) (i : ℕ) (d : B) (a : Stand) (x : GangTarget) (body : List ℕ) → IsTrue B.tells
         → AllSince B.Bench old benches new after → i < length benches

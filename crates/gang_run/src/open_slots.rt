@@ -84,8 +84,8 @@ fn survey_slot<B: Bench>(
     slot_of(session, window, found)
 }
 
-/// Opens and surveys the job of a bench, and makes a target of it, with this window. A refusal is the target's end, unless it is out of
-/// memory.
+/// Opens and surveys the job of a bench, and makes a target of it, with this window. A refusal is the target's end, except out of memory,
+/// which is the error.
 fn open_slot<B: Bench>(alloc: Global, bench: &mut B, window: usize) -> Result<Slot, OutOfMemory>
     ensures slot { IfOk result (λ slot. Opens B.tells window slot (B.state bench.old) (B.state bench.new)) }
     ensures looked { IsLookedAt B.tells (B.state bench.old) (B.state bench.new) }

@@ -1,10 +1,10 @@
-//! What the flash programmer does, row by row: what its readers say of files (`readers`), its commands in memory (`memory`), and whole jobs on
-//! real files (`host`).
+//! Tries what the flash programmer does, row by row: what its readers say of files (`readers`), its commands in memory (`memory`), and
+//! whole jobs on real files (`host`).
 //!
-//! `program_vectors JOB CELLS COMMAND WORDS` goes through all of them, in that order. It ends as `host` does, which runs these words at last. In
-//! place of these words, `rows FILE..` goes through files of rows alone (`memory`), `elf WORD..`, `map WORD..` and `symbols COUNT` do only what is
-//! hard on a reader (`readers::hard`), and `images BINARY IMAGE..` compares these image files alone. The time that each takes is to be measured from
-//! outside.
+//! `program_vectors JOB CELLS COMMAND WORDS` goes through all of them, in that order. It ends as `host` does, which runs these words last.
+//! Other words ask for one part alone. `rows FILE..` goes through files of rows (`memory`). `elf WORD..`, `map WORD..` and `symbols COUNT`
+//! do only what is hard on a reader (`readers::hard`). `images BINARY IMAGE..` compares these image files. The time that each takes is
+//! measured from outside.
 #![tactic(auto)]
 
 mod host;

@@ -1,8 +1,9 @@
-//! Lines that are printed piece by piece. What can't be printed is missed where the output is compared, so no call tells it.
+//! Lines that are printed piece by piece. No call reports a failed print, since the comparison of the output shows what is missing.
 
 use std::fmt::Display;
 
-/// A piece of a line: a text, or one with a number behind it. Numbers in hexadecimal digits have at least as many as the name says.
+/// A piece of a line: a text, or a text with a number after it. A number in hexadecimal digits has at least as many digits as the variant's
+/// name says.
 #[derive(Clone, Copy)]
 pub enum Piece<'a> {
     Text(&'a str),
@@ -31,7 +32,7 @@ fn put_piece(rt: &HostRuntime, piece: &Piece) {
     };
 }
 
-/// Prints pieces one behind the other.
+/// Prints pieces one after the other.
 pub fn put(rt: &HostRuntime, pieces: &[Piece]) {
     for piece in pieces {
         put_piece(rt, piece);

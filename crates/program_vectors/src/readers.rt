@@ -1,8 +1,8 @@
-//! Answers questions about files: ELF files and an FLM file, as a compiler, a linker or a hand made them and with some bytes
-//! changed; boards with one key changed; and other texts of boards. It prints each question with its answer. Then it reads the image files
-//! of a list, which other tools wrote, and compares their bytes with the binary file that the same tools make of them. At last it goes
-//! through sweeps: every prefix of a file, every byte of it changed, large numbers in its fields. It counts their answers. Before all that it
-//! reads what is hard on the readers of ELF files and of images (`hard`).
+//! Answers questions about files. First it reads what is hard on the readers of ELF files and of images (`hard`). Then come ELF files and
+//! an FLM file, as a compiler, a linker or a hand made them and with some bytes changed. They are followed by boards with one key changed
+//! and other texts of boards. It prints each question with its answer. Then it reads the image files of a list, which other tools wrote,
+//! and compares their bytes with the binary file that the same tools make of them. Last it goes through sweeps: every prefix of a file,
+//! every byte of it changed, large numbers in its fields. It counts their answers.
 
 mod board;
 mod digest;
@@ -48,7 +48,7 @@ fn changed(rt: &HostRuntime, name: &str, changes: SplitAsciiWhitespace) -> Resul
     Ok(bytes)
 }
 
-/// A question about a file, behind what it shows: `FILE WHAT NAME NUMBER`, and then changes of its bytes.
+/// Answers a question about a file. The line has what it shows, `FILE WHAT NAME NUMBER`, and then changes of the file's bytes.
 fn answer(rt: &HostRuntime, line: &str) -> Result<()> {
     let (_shows, question) = line.split_once("; ").context("what it shows is wanted")?;
     let mut words = question.split_ascii_whitespace();

@@ -1,6 +1,6 @@
-//! Drives gangs by turns, and calls `flmgang`, from a file of lines (`lines`). It prints how each target of a gang ends that carries its
-//! job alone, and what a call puts. It ends with an error where a target that is driven by turns ends otherwise, or leaves other cells or
-//! another file.
+//! Drives gangs by turns, and calls `flmgang`, from a file of lines (`lines`). It prints how each target of a gang ends when its job is
+//! carried alone, and what a call puts. It ends with an error where a target that is driven by turns ends otherwise, or leaves other cells
+//! or another file.
 
 mod alone;
 mod call;

@@ -1,11 +1,11 @@
-//! Begins, opens and closes a job of the small board on benches in memory, each stopped after every number of calls and with every pick.
-//! Begins and opens a job of two regions. Reads files that are jobs or nearly so, of both formats. It prints what is answered, and what
-//! each file is then.
+//! Begins, opens and closes a job of the small board on benches in memory, each stopped after every number of calls and with every pick. It
+//! also begins and opens a job of two regions, and reads files that are jobs or nearly so, of both formats. It prints what is answered, and
+//! what each file is then.
 //!
-//! `job.bin` is the job file of `one.toml`, `algorithm.flm`, the bytes 01 to 04 at 0x08000000 and a blank device, byte by byte as
-//! the format says, and `first.bin` the same job in the first format. `two.bin` is that of `two.toml`, both FLM files, these bytes, the byte
-//! 55 at 0x1FFFF000 and a blank device. `changes.txt`, `first.txt` and `two.txt` have a line for each file that is made of one of these.
-//! All of them are written by `tools/job_files.py`, the hashes by Python's SHA-256.
+//! `job.bin` is the job file of `one.toml`, `algorithm.flm`, the bytes 01 to 04 at 0x08000000 and a blank device, byte by byte as the
+//! format says. `first.bin` is the same job in the first format. `two.bin` is the job file of `two.toml`, both FLM files, these bytes, the
+//! byte 55 at 0x1FFFF000 and a blank device. `changes.txt`, `first.txt` and `two.txt` have a line for each file that is made of one of
+//! these. `tools/job_files.py` writes all of them, with hashes by Python's SHA-256.
 ghost use Rattle.std.specs.Prelude.{◌<◌, ◌^◌, length, option_copied, IsTrue, IfOk};
 ghost use Rattle.job_text.specs.Body.{flm_len};
 ghost use Rattle.job_text.specs.Jobs.{AreFlms};

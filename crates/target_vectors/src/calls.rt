@@ -17,9 +17,9 @@
 //!   and pages of 64. Its cells are used, and then all of them are erased, by the chip or by sectors, programmed and verified.
 //!
 //! For each call of a plan it prints the number that the function is given: an address, or the argument of Init and UnInit. Then it prints
-//! how the call ended, and whether the cells after it are those of the ideal device. Then come the number of operations that were open at
-//! some point of the call, and how many of these reached out of its sector, its page or, for EraseChip, the chip. Last it prints whether an
-//! operation is open at the end of the call. A call of another function may open none.
+//! how the call ended, and whether the cells after it are those of the ideal device. Then comes the number of operations that were open at
+//! some point of the call, and how many of these reached out of its area. The area is its sector, its page or, for EraseChip, the chip; a
+//! call of another function may open none. Last it prints whether an operation is open at the end of the call.
 
 mod end;
 mod plan;

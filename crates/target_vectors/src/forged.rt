@@ -1,6 +1,6 @@
-//! Makes FLM files and inspects them: A1 to A7 for the board of one file, F1 and A1 for those of two others, A1 and A2 for the second
-//! region of a fourth, and a listing with data and zeroed data. It prints what each file says, and its bytes. Then it prints, for forged
-//! algorithms on five boards, whether they are A1 on a board that A1 serves.
+//! Makes FLM files and inspects them. They are A1 to A7 for the board of one file, F1 and A1 for those of two others, and A1 and A2 for the
+//! second region of a fourth. Last comes a listing with data and zeroed data. It prints what each file says, and its bytes. Then it prints,
+//! for forged algorithms on five boards, whether they are A1 on a board that A1 serves.
 
 mod data;
 mod put;

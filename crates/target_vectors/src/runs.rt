@@ -13,8 +13,8 @@
 //! - `turns FUEL STEPS CODE PC R0 R1 CODE PC R0 R1`: two machines with their RAM in one arena run their code by turns of STEPS steps. It
 //!   prints how each ended, and whether it left what a target that is alone leaves: registers, RAM and cells.
 //! - `cells`: it prints the cells.
-//! - `measure ROUNDS FILE..`: each file, which is code for address 0x20000020, is run on a target of its own with the number of rounds in R0.
-//!   It prints how the run ended, and how many steps were made.
+//! - `measure ROUNDS FILE..`: each file is code for address 0x20000020. It is run on a new target with the number of rounds in R0. It
+//!   prints how the run ended, and how many steps were made.
 //! - `measure ROUNDS`: the core runs a loop of mixed instructions over the bus in memory. It prints the same things, and two registers.
 
 mod bed;

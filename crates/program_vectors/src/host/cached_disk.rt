@@ -1,4 +1,4 @@
-//! A host's files in memory whose changes wait in a cache.
+//! Files of a host, in memory, with a cache in which changes wait.
 
 use crate::host::cached_file::{CachedFile, Fate, Loss};
 use disk_files::Disk;
@@ -6,20 +6,21 @@ use std::alloc::{AllocError, Global};
 use std::io;
 use std::io::ErrorKind;
 
-/// A job file and a cells file whose changes wait in a cache until they are synced, as an operating system's do, and whose power is lost
-/// after so many calls. It tells nothing, since what a loss leaves of its cells is more than `Disk` speaks of: for tests of whole jobs.
+/// A job file and a cells file with a cache, as an operating system has one: changes wait in it until they are synced. The power is lost
+/// after `calls` calls. This disk doesn't tell its contents, since a loss may leave cells that `Disk` doesn't describe. It is for tests of
+/// whole jobs.
 #[derive(Drop)]
 pub struct CachedDisk {
     alloc: Global,
     job: CachedFile,
     cells: CachedFile,
-    // whether the job file's entry in its folder is on the disk
+    // whether the entry of the job file in its folder is on the disk
     entry: bool,
     // how many calls go through
     calls: u64,
 }
 
-/// What stands on the disk once the power is lost.
+/// What is on the disk after the power was lost.
 #[derive(Drop)]
 pub struct Remains {
     pub job: Vec<u8>,
@@ -27,7 +28,8 @@ pub struct Remains {
 }
 
 impl CachedDisk {
-    /// Files with these bytes, all of them on the disk. So many calls go through. Where the job file has no bytes, its first call makes it.
+    /// Files with these bytes, all of them on the disk. Only `calls` calls go through. Where the job file has no bytes, it doesn't exist
+    /// until its first call makes it.
     pub fn new(
         alloc: Global,
         job: &[u8],
@@ -43,7 +45,7 @@ impl CachedDisk {
         })
     }
 
-    /// The same files, of which so many calls go through from now on, as after a run that was killed.
+    /// Begins a new run with the same files, after a run that was killed. From now on only `calls` calls go through.
     pub fn begin_again(self, calls: u64) -> CachedDisk {
         let CachedDisk {
             alloc,
@@ -61,17 +63,17 @@ impl CachedDisk {
         }
     }
 
-    /// The job file as a read gives it.
+    /// The bytes of the job file, as a read gives them.
     pub fn job(&self) -> &[u8] {
         self.job.bytes()
     }
 
-    /// The cells as a read gives them.
+    /// The cells, as a read gives them.
     pub fn cells(&self) -> &[u8] {
         self.cells.bytes()
     }
 
-    /// Loses the power. A job file whose entry isn't on the disk is gone where the loss begins with an absent change.
+    /// Loses the power. A job file whose entry isn't on the disk is lost if the fate of the first change is `Absent`.
     pub fn lose(self, loss: Loss) -> Result<Remains, AllocError> {
         let CachedDisk {
             alloc,

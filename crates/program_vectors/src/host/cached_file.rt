@@ -3,27 +3,27 @@ ghost use Rattle.std.specs.Prelude.{◌≤◌, length};
 
 use std::alloc::{AllocError, Global};
 
-/// The byte that stands for any in what a loss of power leaves.
+/// The byte that a loss of power leaves where it may leave any byte.
 const GARBAGE: u8 = 0x5A;
 
 /// What becomes of a change that waits in a cache when the power is lost.
 #[derive(Clone, Copy, Debug, PartialEq, Eq)]
 pub enum Fate {
-    /// It didn't reach the disk.
+    /// The change didn't reach the disk.
     Absent,
 
-    /// It reached the disk.
+    /// The whole change reached the disk.
     Whole,
 
-    /// Its first half reached the disk.
+    /// The first half of the change reached the disk.
     CutShort,
 
-    /// Any bytes stand where it went.
+    /// The place of the change has any bytes.
     Garbage,
 }
 
 impl Fate {
-    /// The next one, in a round of the four.
+    /// The next fate, in a round of the four.
     fn next(self) -> Fate {
         match self {
             Fate::Absent => Fate::Whole,
@@ -34,21 +34,21 @@ impl Fate {
     }
 }
 
-/// What becomes of the changes that wait: the first has this fate, and each later one the same, or the next in the round of the four.
+/// What becomes of the changes that wait. The first has this fate. Each later one has the same, or the next in the round of the four.
 #[derive(Clone, Copy, Debug, PartialEq, Eq)]
 pub struct Loss {
     pub first: Fate,
     pub mixed: bool,
 }
 
-/// A change of a file: bytes that are laid over others, or a cut to a length.
+/// A change of a file: bytes that replace others, or a cut to a length.
 #[derive(Drop)]
 enum Change {
     Write { at: usize, bytes: Vec<u8> },
     Cut { len: usize },
 }
 
-/// A file as it stands on the disk and as a read gives it, and the changes that have led from the one to the other.
+/// A file as it is on the disk and as a read gives it, and the changes that lead from the first to the second.
 #[derive(Drop)]
 pub struct CachedFile {
     disk: Vec<u8>,
@@ -83,7 +83,7 @@ impl CachedFile {
         count
     }
 
-    /// Lays bytes over others, from a place on.
+    /// Writes bytes over others, from a place on.
     pub fn write(&mut self, alloc: Global, at: usize, bytes: &[u8]) -> Result<(), AllocError> {
         lay(&mut self.cache, at, bytes)?;
         let bytes = Vec::from_slice(alloc, bytes)?;
@@ -105,7 +105,7 @@ impl CachedFile {
         Ok(())
     }
 
-    /// What stands on the disk once the power is lost.
+    /// What is on the disk after the power was lost.
     pub fn lose(self, loss: Loss) -> Result<Vec<u8>, AllocError> {
         let CachedFile {
             disk: mut left,
@@ -126,7 +126,7 @@ impl CachedFile {
     }
 }
 
-/// Lays bytes over others, from a place on. Where the file is shorter than that, zeros stand between.
+/// Writes bytes over others, from a place on. Where the file is shorter than that, zeros come between.
 fn lay(file: &mut Vec<u8>, at: usize, bytes: &[u8]) -> Result<(), AllocError> {
     let end = at.saturating_add(bytes.len());
     if file.len() < end {

@@ -8,7 +8,7 @@ use std::os::unix::fs::FileExt;
 /// The most bytes that a line fills.
 const MOST: usize = 1 << 21;
 
-/// Makes a file of so many bytes of this value.
+/// Makes a file of `count` bytes of this value.
 pub fn fill(rt: &HostRuntime, name: &str, count: usize, byte: &str) -> Result<()> {
     let byte = bytes_of(rt.alloc(), byte)?.pop().context("no byte")?;
     let bytes = vec![in rt.alloc(); byte; count.min(MOST)]?;
@@ -16,7 +16,7 @@ pub fn fill(rt: &HostRuntime, name: &str, count: usize, byte: &str) -> Result<()
     Ok(())
 }
 
-/// Lays bytes over those of a file, from a place on.
+/// Writes bytes over those of a file, from a place on.
 pub fn put(rt: &HostRuntime, name: &str, at: u64, bytes: &str) -> Result<()> {
     let file = OpenOptions::new().write(true).open(rt, name)?;
     file.write_all_at(&bytes_of(rt.alloc(), bytes)?, at)?;

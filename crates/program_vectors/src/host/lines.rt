@@ -1,12 +1,13 @@
 //! The lines, with numbers in decimal digits and bytes in pairs of hexadecimal ones.
 //!
 //! - `# TEXT` is printed.
-//! - `fill NAME COUNT BYTE` makes a file of so many bytes. `put NAME AT BYTES` lays bytes over those of a file, from the place AT on.
-//!   `copy FROM TO`.
+//! - `fill NAME COUNT BYTE` makes a file of COUNT bytes. `put NAME AT BYTES` writes bytes over those of a file, from the place AT on. `copy
+//!   FROM TO` copies a file.
 //! - `length NAME` prints how many bytes a file has.
-//! - `call JOB CELLS COMMAND WORDS`, `call --gang JOB CELLS ..`: a call with these arguments. Its words are printed, and then its status.
-//! - `losses LOSS CELLS WORDS`: the job that these words begin on the cells of a file, with a loss of power after each of its calls, and
-//!   `killed CALLS LOSS CELLS WORDS`: the job killed after so many calls, and a loss after each call of the `resume` behind that (`losses`).
+//! - `call JOB CELLS COMMAND WORDS` or `call --gang JOB CELLS ..`: a call with these arguments. It prints the words, and then the status.
+//! - `losses LOSS CELLS WORDS`: the job that these words begin on the cells of a file, with a loss of power after each of its calls.
+//!   `killed CALLS LOSS CELLS WORDS`: the job is killed after CALLS calls, and the power is lost after each call of the `resume` that
+//!   follows (`losses`).
 
 use crate::host::files::{fill, length, put};
 use crate::host::losses::{lose_after_kill, lose_all};
@@ -52,7 +53,7 @@ fn step(streams: HeldStreams, line: &str) -> Result<()> {
     }
 }
 
-/// What stands behind so many words of a line.
+/// What comes after the first `words` words of a line.
 fn behind(line: &str, words: usize) -> &str {
     let mut rest = line;
     for _word in 0..words {
@@ -61,7 +62,7 @@ fn behind(line: &str, words: usize) -> &str {
     rest
 }
 
-/// Makes the call of a line, of which the first word stands where the program's own name does. It prints the line and the status.
+/// Makes the call of a line. The first word of the line is in the place of the program's own name. It prints the line and the status.
 fn run_line(streams: HeldStreams, line: &str) -> Result<()> {
     let rt = &streams.host();
     println!(rt; "{line}")?;

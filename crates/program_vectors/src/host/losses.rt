@@ -1,4 +1,4 @@
-//! Losses of power in the midst of a job.
+//! Losses of power in the middle of a job.
 
 use crate::host::cached_disk::{CachedDisk, Remains};
 use crate::host::cached_file::{Fate, Loss};
@@ -19,7 +19,7 @@ const MOST: u64 = 10_000;
 /// The most cells of a device.
 const MOST_CELLS: usize = 1 << 20;
 
-/// The loss of a name: the fate of each change that waits, or `mixed`, a round of the four.
+/// The loss with a name: the fate of every change that waits, or `mixed`, a round of the four fates.
 fn loss_of(name: &str) -> Result<Loss> {
     let first = match name {
         "absent" | "mixed" => Fate::Absent,
@@ -40,7 +40,7 @@ enum Left {
     Finished,
 }
 
-/// How often which was left, in this order alone.
+/// How often each kind was left.
 #[derive(Clone, Copy)]
 struct Tally {
     untouched: u64,
@@ -80,10 +80,10 @@ impl fmt::Display for Tally {
     }
 }
 
-/// A bench over files whose changes wait.
+/// A bench over files with a cache.
 type CachedBench = DiskBench<WindowedDisk<CachedDisk>>;
 
-/// A job on a device: the files that its words name, the cells as they are, the job file behind its byte 0, and the cells once it is done.
+/// A job on a device: the files that its words name, the cells before it, the job file without its byte 0, and the cells once it is done.
 #[derive(Drop)]
 struct Job {
     alloc: Global,
@@ -119,13 +119,13 @@ impl Job {
         Ok((status, bench.into_disk().into_disk()))
     }
 
-    /// What stands on the disk where a command on these files loses the power after so many calls, and its status.
+    /// Runs a command on these files until the power is lost. Answers its status, and what is then on the disk.
     fn lose(&self, words: &str, disk: CachedDisk, loss: Loss) -> Result<(u8, Remains)> {
         let (status, disk) = self.run(words, disk)?;
         Ok((status, disk.lose(loss)?))
     }
 
-    /// What a loss left. Nothing else may be left.
+    /// What a loss left. It fails where anything else was left.
     fn look(&self, left: &Remains) -> Result<Left> {
         let same_job = left.job.get(1..).unwrap_or(&[]) == self.body.as_slice();
         if left.job.first() == Some(&0xA5) {
@@ -142,7 +142,7 @@ impl Job {
         Ok(Left::Finished)
     }
 
-    /// Brings what was left to its end by a command. The cells that are wanted, and a closed job, are on the disk then.
+    /// Brings what was left to its end by a command. Then the wanted cells and a closed job must be on the disk.
     fn carry(&self, left: &Remains, command: &str, wanted: &[u8]) -> Result<()> {
         let disk = CachedDisk::new(self.alloc, &left.job, &left.cells, ENDLESS)?;
         let (status, end) = self.lose(command, disk, loss_of("absent")?)?;
@@ -155,7 +155,7 @@ impl Job {
         Ok(())
     }
 
-    /// The same of whatever was left: a whole job is carried on, and from the same files back.
+    /// Looks at what was left. A whole job is carried on and, from the same files, back.
     fn carry_both(&self, left: &Remains) -> Result<Left> {
         let what = self.look(left)?;
         if what == Left::Whole {
@@ -165,7 +165,7 @@ impl Job {
         Ok(what)
     }
 
-    /// Files as the job finds them, of which so many calls go through.
+    /// The files before the job. Only `calls` calls on them go through.
     fn begin(&self, calls: u64) -> Result<CachedDisk> {
         Ok(CachedDisk::new(self.alloc, &[], &self.old, calls)?)
     }
@@ -183,20 +183,21 @@ impl Job {
         Ok(())
     }
 
-    /// Loses the power after so many calls of the job: its status, and what is left, which is carried on and back.
+    /// Loses the power after `calls` calls of the job. Answers its status, and what is left, which is carried on and back.
     fn lose_one(&self, words: &str, calls: u64, loss: Loss) -> Result<(u8, Left)> {
         let (status, left) = self.lose(words, self.begin(calls)?, loss)?;
         Ok((status, self.carry_both(&left)?))
     }
 
-    /// The same after so many calls of a `resume`, behind a job that was killed.
+    /// Kills a job after `killed` calls, and loses the power after `calls` calls of a `resume`. Answers its status, and what is left, which
+    /// is carried on and back.
     fn lose_resumed(&self, words: &str, killed: u64, calls: u64, loss: Loss) -> Result<(u8, Left)> {
         let (_, left) = self.run(words, self.begin(killed)?)?;
         let (status, left) = self.lose("resume", left.begin_again(calls), loss)?;
         Ok((status, self.carry_both(&left)?))
     }
 
-    /// Loses the power after each call of the job. Prints how often which was left.
+    /// Loses the power after each call of the job. Prints how often each kind was left.
     fn lose_each(&self, rt: &HostRuntime, name: &str, words: &str) -> Result<()> {
         let loss = loss_of(name)?;
         let mut tally = Tally::new();
@@ -212,7 +213,7 @@ impl Job {
         bail!("no end");
     }
 
-    /// Loses the power after each call of the `resume` behind a job that was killed. Prints how often which was left.
+    /// Loses the power after each call of the `resume` that follows a job that was killed. Prints how often each kind was left.
     fn lose_each_resumed(
         &self,
         rt: &HostRuntime,
@@ -250,15 +251,15 @@ fn job_of(rt: &HostRuntime, cells: &str, words: &str) -> Result<Job> {
     Ok(job)
 }
 
-/// Loses the power after each call of a job, with what becomes of the changes that wait, and carries what is left on and back. Prints how
-/// often which was left.
+/// Loses the power after each call of a job, with this fate of the changes that wait, and carries what is left on and back. Prints how
+/// often each kind was left.
 pub fn lose_all(rt: &HostRuntime, name: &str, cells: &str, words: &str) -> Result<()> {
     let job = job_of(rt, cells, words)?;
     job.lose_each(rt, name, words)
 }
 
-/// Kills a job after so many calls, which loses nothing, and then loses the power after each call of a `resume` in the next run. Carries what is
-/// left on and back. Prints how often which was left.
+/// Kills a job after a number of calls, with no loss. Then loses the power after each call of a `resume` in the next run, and carries what
+/// is left on and back. Prints how often each kind was left.
 pub fn lose_after_kill(
     rt: &HostRuntime,
     name: &str,

@@ -15,7 +15,7 @@ use std::str;
 /// The room for what a call puts on standard output.
 const PRINTED: usize = 4096;
 
-/// The words of a line, which are parted by blanks. `""` is the empty word.
+/// The words of a line, which blanks separate. `""` is the empty word.
 pub fn words_of(alloc: Global, line: &str) -> Result<Vec<Word>> {
     let mut words = Vec::new(alloc);
     for text in line.split_whitespace() {
@@ -37,7 +37,7 @@ pub struct Said {
 }
 
 impl Said {
-    /// Prints it, and behind the status what is left.
+    /// Prints what the call put, and the status with what is left after it.
     pub fn print<'a>(&'a self, rt: &HostRuntime, left: &'a str) {
         let out = str::from_utf8(self.out.bytes()).unwrap_or("no text\n");
         let err = str::from_utf8(self.err.bytes()).unwrap_or("no text\n");
@@ -62,7 +62,8 @@ pub fn call<B: Bench>(
     call_in(alloc, files, fails, bench, line, PRINTED)
 }
 
-/// The same with so much room for what it puts on standard output.
+/// What a call says with the words of a line, with `printed` bytes of room on standard output. The calls of these numbers on its inputs and
+/// streams fail.
 pub fn call_in<B: Bench>(
     alloc: Global,
     files: &Files,
@@ -79,7 +80,7 @@ pub fn call_in<B: Bench>(
     Ok(Said { out, err, status })
 }
 
-/// The status of a call of which nothing else fails.
+/// The status of a call with no failing input or stream.
 pub fn status_of<B: Bench>(alloc: Global, trial: &Trial, bench: &mut B, line: &str) -> Result<u8> {
     let said = call(alloc, &trial.files, Fails::none(), bench, line)?;
     Ok(said.status)
@@ -105,7 +106,7 @@ pub fn call_over(
     Ok(Ended { status, bench })
 }
 
-/// Makes a call on a new bench, which is stopped after so many of its calls that can fail.
+/// Makes a call on a new bench. The call is stopped after `calls` of its calls that can fail.
 pub fn stopped(alloc: Global, trial: &Trial, line: &str, calls: u64, pick: Pick) -> Result<Ended> {
     let mut bench = StopBench::new(trial.bench(alloc)?, calls);
     let status = status_of(alloc, trial, &mut bench, line)?;

@@ -1,9 +1,9 @@
-//! How often what came.
+//! Counts of what came, by kind.
 
 use crate::print::Piece::{Number, Text};
 use crate::print::put;
 
-/// The statuses, in their order, and behind them whatever else is answered.
+/// The statuses, in their order, and after them whatever else is answered.
 pub const STATUSES: [&str; 16] = [
     "of status 0",
     "of status 1",
@@ -23,7 +23,7 @@ pub const STATUSES: [&str; 16] = [
     "of no status",
 ];
 
-/// How often what came, of at most sixteen kinds that have places from 0 on.
+/// How often each of at most sixteen kinds came. The kinds have places from 0 on.
 #[derive(Clone, Copy)]
 pub struct Counts {
     counts: [u32; 16],
@@ -34,13 +34,13 @@ impl Counts {
         Counts { counts: [0; 16] }
     }
 
-    /// Counts what has this place, or the last place where there is none such.
+    /// Counts the kind with this place, or the last kind where there is no such place.
     pub fn count(&mut self, place: u8) {
         let count = &mut self.counts[place.min(15) as usize];
         *count = count.saturating_add(1);
     }
 
-    /// Prints what came by its name, and how often.
+    /// Prints the name of each kind that came, and how often it came.
     pub fn put(&self, rt: &HostRuntime, names: &[&str]) {
         for (count, name) in self.counts.iter().zip(names.iter()) {
             if *count > 0 {

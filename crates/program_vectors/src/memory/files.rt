@@ -1,4 +1,4 @@
-//! The files that stand under names.
+//! The files of a row, by their names.
 
 use crate::memory::lines::{first_of, number};
 use anyhow::{Context, Result, bail, ensure};
@@ -9,14 +9,14 @@ use outside_io::MemoryInputs;
 use std::alloc::Global;
 use std::fs;
 
-/// A file that stands under a name.
+/// A file with its name.
 #[derive(Drop)]
 struct Given {
     name: Word,
     bytes: Vec<u8>,
 }
 
-/// The files, of which the one that was given last under a name counts.
+/// The files. Under each name the file counts that was given last.
 #[derive(Drop)]
 pub struct Files {
     files: Vec<Given>,
@@ -29,14 +29,14 @@ impl Files {
         }
     }
 
-    /// Puts a file under a name.
+    /// Gives a file a name.
     pub fn give(&mut self, alloc: Global, name: &str, bytes: Vec<u8>) -> Result<()> {
         let name = Word::copy(alloc, name)?;
         self.files.insert(0, Given { name, bytes })?;
         Ok(())
     }
 
-    /// Lays bytes over those of what stands under a name, from a place on.
+    /// Writes bytes over those of the file with a name, from a place on.
     pub fn patch(&mut self, name: &str, at: usize, bytes: &[u8]) {
         for file in self.files.iter_mut() {
             if file.name.text() == name {
@@ -45,7 +45,7 @@ impl Files {
         }
     }
 
-    /// Fills what stands under a name with a byte, up to so many.
+    /// Fills the file with a name up to `len` bytes with a byte.
     pub fn pad(&mut self, name: &str, len: usize, value: u8) -> Result<()> {
         for file in self.files.iter_mut() {
             if file.name.text() == name {
@@ -55,7 +55,7 @@ impl Files {
         Ok(())
     }
 
-    /// What stands under a name.
+    /// The bytes of the file with a name.
     pub fn bytes(&self, name: &str) -> Result<&[u8]> {
         for file in self.files.iter() {
             if file.name.text() == name {
@@ -73,7 +73,7 @@ impl Files {
         Ok(())
     }
 
-    /// The inputs that have these files, whose taking of this number fails.
+    /// The inputs that have these files. The take of number `take` fails.
     pub fn inputs(&self, alloc: Global, take: u64) -> Result<MemoryInputs> {
         let mut inputs = MemoryInputs::new(alloc, &[take])?;
         for file in self.files.iter() {
@@ -101,7 +101,7 @@ fn forged_for(alloc: Global, kind: &str, board: &Board, form: &str) -> Result<Ve
     Ok(forge(alloc, &listing)?.into_vec())
 }
 
-/// The bytes of a page, the milliseconds for a sector's erasure, and the region, from 0 on.
+/// The bytes of a page, the milliseconds that the erase of a sector takes, and the region, from 0 on.
 #[derive(Clone, Copy)]
 struct Form {
     page: u32,
@@ -123,7 +123,7 @@ impl Form {
     }
 }
 
-/// Lays bytes over others, from a place on, as far as there are others.
+/// Writes bytes over others, from a place on, as far as there are others.
 pub fn lay(into: &mut [u8], at: usize, bytes: &[u8]) {
     if at < into.len() {
         let into = &mut into[at..];

@@ -1,4 +1,4 @@
-//! A job of random bytes, which is to be measured.
+//! A job of random bytes, which is measured from outside.
 
 use crate::memory::call::call_in;
 use crate::memory::files::put_file;
@@ -13,16 +13,16 @@ use std::alloc::Global;
 /// The words of the call.
 const CALL: &str = "program --raw-at 0x08000000 board.toml a1.flm image";
 
-/// The algorithm, with pages of 1,024 bytes and 500 milliseconds for a sector's erasure.
+/// The algorithm, with pages of 1,024 bytes and 500 milliseconds for the erase of a sector.
 const ALGORITHM: &str = "A1 board.toml 1024 500";
 
-/// The bytes that a job file has beside image and snapshot, at the most.
+/// The most bytes that a job file has besides image and snapshot.
 const BESIDE: u64 = 1 << 16;
 
 /// The room for what is printed.
 const PRINTED: usize = 1 << 23;
 
-/// Where the random bytes begin.
+/// The first state of the generator of random bytes.
 const SEED: u32 = 2_463_534_242;
 
 /// Runs a job of random bytes, or puts its files into a folder: `SECTORS SIZE [FOLDER]`.
@@ -31,7 +31,7 @@ pub fn run_random(rt: &HostRuntime, text: &str) -> Result<()> {
     run_in(rt, &mut trial, text)
 }
 
-/// The same in a row of its own.
+/// Runs a job of random bytes, or puts its files into a folder, in a row that is given.
 fn run_in(rt: &HostRuntime, trial: &mut Trial, text: &str) -> Result<()> {
     let (sectors, rest) = first_of(text);
     let (size, folder) = first_of(rest);
@@ -61,14 +61,14 @@ fn carry(rt: &HostRuntime, trial: &Trial) -> Result<()> {
     Ok(())
 }
 
-/// Runs the job on a bench: the status.
+/// Runs the job on a bench, and answers the status.
 fn carry_on(alloc: Global, trial: &Trial, bench: &mut MemoryBench) -> Result<u8> {
     let said = call_in(alloc, &trial.files, Fails::none(), bench, CALL, PRINTED)?;
     Ok(said.status)
 }
 
-/// Makes the files of the job, each under the name that the call gives it, and the cells before it, on a device of so many sectors of so many
-/// bytes. What the board's text doesn't say has its default. The record has room for the job: four units for each two bytes that are
+/// Makes the files of the job, each under the name that the call gives it, and the cells before it. The device has `sectors` sectors of
+/// `size` bytes. What the board's text doesn't say has its default. The record has room for the job: four units for each two bytes that are
 /// programmed, and the bytes of the job file.
 fn make(alloc: Global, trial: &mut Trial, sectors: u32, size: u32) -> Result<()> {
     let len = sectors.saturating_mul(size) as usize;
@@ -95,7 +95,7 @@ fn make(alloc: Global, trial: &mut Trial, sectors: u32, size: u32) -> Result<()>
     trial.files.give(alloc, "a1.flm", flm)
 }
 
-/// So many bytes of a generator (Marsaglia, Xorshift RNGs, 2003), which goes on from its state.
+/// The next `count` bytes of a generator (Marsaglia, Xorshift RNGs, 2003), which continues from its state.
 fn random_bytes(alloc: Global, state: &mut u32, count: usize) -> Result<Vec<u8>> {
     let mut bytes = vec![in alloc; 0; count]?;
     for byte in bytes.iter_mut() {

@@ -1,4 +1,4 @@
-//! What a call leaves that doesn't come to its end.
+//! What a call leaves that doesn't reach its end.
 
 use crate::memory::call::{Said, call, call_over};
 use crate::memory::lines::first_of;
@@ -7,7 +7,7 @@ use anyhow::{Result, ensure};
 use bench_model::MemoryBench;
 use std::alloc::Global;
 
-/// What a call leaves: the bench as it was; a free file, and the cells as they were; the job, whole in its file; or the job, done.
+/// What a call leaves: the bench unchanged; a free file and the cells unchanged; the job, whole in its file; or the job, done.
 #[derive(Clone, Copy, PartialEq, Eq)]
 pub enum Left {
     Same,
@@ -20,7 +20,7 @@ pub enum Left {
 pub const LEFT: [&str; 4] = ["as before", "untouched", "whole", "finished"];
 
 impl Left {
-    /// Its place among the names.
+    /// The place of this kind among the names.
     pub fn place(self) -> u8 {
         match self {
             Left::Same => 0,
@@ -36,7 +36,7 @@ pub fn is_open(file: &[u8]) -> bool {
     file.len() > 1 && file.first() == Some(&0xA5)
 }
 
-/// A job file behind its byte 0.
+/// The bytes of a job file after its byte 0.
 pub fn body_of(file: &[u8]) -> &[u8] {
     file.get(1..).unwrap_or(&[])
 }
@@ -49,8 +49,8 @@ fn works(command: &str) -> bool {
     }
 }
 
-/// What a call comes to where nothing fails: what it says, the bench as it leaves it, whether its job is whole or finished then, and the cells
-/// to which `resume` brings the job.
+/// The outcome of a call where nothing fails: what it says, the bench as it leaves it, whether its job is then whole or finished, and the
+/// cells after `resume`.
 #[derive(Drop)]
 pub struct Aims {
     works: bool,
@@ -61,7 +61,7 @@ pub struct Aims {
 }
 
 impl Aims {
-    /// Makes the call. Its job is that of the file with which the row begins, or else the one which the call begins.
+    /// Makes the call. Its job is that of the file with which the row begins, or otherwise the one that the call begins.
     pub fn new(alloc: Global, trial: &Trial, line: &str) -> Result<Aims> {
         let mut bench = trial.bench_with(alloc, &trial.cells, &trial.job, Fails::none())?;
         let said = call(alloc, &trial.files, Fails::none(), &mut bench, line)?;
@@ -80,7 +80,7 @@ impl Aims {
         })
     }
 
-    /// What is left on a bench on which the call didn't come to its end; none where that may not be left.
+    /// What is left on a bench on which the call didn't reach its end. It is none where that may not be left.
     pub fn look(&self, trial: &Trial, bench: &MemoryBench) -> Option<Left> {
         let old_cells = bench.cells() == trial.cells.as_slice();
         let same_job = body_of(bench.file()) == body_of(self.bench.file());
@@ -102,7 +102,7 @@ impl Aims {
     }
 }
 
-/// What is said where `look` sees none.
+/// The text for a bench on which `look` finds none of these.
 pub const OTHER: &str = "neither as before, untouched, whole nor finished";
 
 /// The cells to which `resume` brings the job of a command that left this bench.
@@ -123,8 +123,8 @@ fn resumed_cells(alloc: Global, trial: &Trial, cells: &[u8], file: &[u8]) -> Res
     copy(alloc, end.bench.cells())
 }
 
-/// The status of a command on a job that was left, on a bench of its own. Where it is 0 the job is closed and the cells are those that are
-/// wanted, and else the job stays.
+/// The status of a command on a job that was left, on a new bench. Where it is 0, the job must be closed and the cells must be the wanted
+/// ones. Otherwise the job must stay.
 pub fn brought(
     alloc: Global,
     trial: &Trial,

@@ -1,34 +1,35 @@
 //! The lines of the rows, with numbers in decimal digits and bytes in pairs of hexadecimal ones.
 //!
-//! - `row NAME` begins with 1,024 blank cells, an empty job file and no faults; the files stay.
-//! - `text NAME LINE|LINE..`, `bytes NAME BYTES`, `empty NAME` or `file NAME PATH`: what stands under a name; `patch NAME AT BYTES` changes it.
-//!   `pad NAME LEN BYTE` fills it with a byte up to so many.
-//!   `forge NAME KIND BOARD PAGE TIME [REGION]`: the FLM file of an algorithm A1 to A7 or F1 for a region, from 0 on, of the board under a name,
-//!   with pages of so many bytes and as many milliseconds for a sector's erasure. With no REGION it is that of the first.
-//! - `cells COUNT VALUE`: so many cells of one byte. `count AT LEN` sets each of a range to its place modulo 256, `set AT BYTES` to these.
-//!   `job BYTES`: the job file. `from job NAME` and `from cells NAME`: the job file or the cells are a file. `spoil BACK` changes the byte of the
-//!   job file that stands so many places before its end. `room LEN`: so many bytes fit into the job file, where it isn't said 256 KiB.
-//!   `open AT LEN`: the operation that is open when the row begins.
-//! - `fail take N`, `fail file N`, `fail cells N`, `fail put N` or `fail line N`: the taking of a file, the call on the job file or on the cells,
-//!   or the put on standard output or on standard error of this number fails.
-//! - `run WORDS`: a call on the row's bench. It prints what was put, the status, the cells that aren't as the row began, and the job file.
-//! - `call WORDS`: a call on a new bench. It prints what was put, the status, and whether cells and job file are as they were.
-//! - `body NAME`: whether the job file is that under a name, but for its first byte.
-//! - `stop CALLS PICK WORDS`: a call on a new bench, which is stopped after so many of its calls that can fail. PICK is `written`, `old` or
+//! - `row NAME`: a row with 1,024 blank cells, an empty job file and no faults. The files stay.
+//! - `text NAME LINE|LINE..`, `bytes NAME BYTES`, `empty NAME` or `file NAME PATH`: the file with a name. `patch NAME AT BYTES` changes it.
+//!   `pad NAME LEN BYTE` fills it up to LEN bytes with a byte. `forge NAME KIND BOARD PAGE TIME [REGION]`: the FLM file of an algorithm A1
+//!   to A7 or F1 for a region, from 0 on, of the board with a name. It has pages of PAGE bytes, and the erase of a sector takes TIME
+//!   milliseconds. With no REGION it is for the first region.
+//! - `cells COUNT VALUE`: COUNT cells of one byte. `count AT LEN` sets each cell of a range to its place modulo 256, `set AT BYTES` to
+//!   these bytes. `job BYTES`: the job file. `from job NAME` and `from cells NAME`: the job file or the cells are a file. `spoil BACK`
+//!   changes the byte of the job file that is BACK places before its end. `room LEN`: the job file has room for LEN bytes; by default it
+//!   has 256 KiB. `open AT LEN`: the operation that is open when the row begins.
+//! - `fail take N`, `fail file N`, `fail cells N`, `fail put N` or `fail line N`: call number N of one kind fails. The kinds are taking a
+//!   file, a call on the job file, a call on the cells, a put on standard output and a put on standard error.
+//! - `run WORDS`: a call on the row's bench. It prints what was put, the status, the cells that have changed since the row began, and the
+//!   job file.
+//! - `call WORDS`: a call on a new bench. It prints what was put, the status, and whether cells and job file are unchanged.
+//! - `body NAME`: whether the job file is the file with that name, except for its first byte.
+//! - `stop CALLS PICK WORDS`: a call on a new bench, which is stopped after CALLS of its calls that can fail. PICK is `written`, `old` or
 //!   the byte that the stop leaves wherever it may leave any.
 //! - `keep CALLS PICK WORDS`: the row begins with the cells and the job file that such a stop leaves.
-//! - `random SECTORS SIZE`: a job that brings random bytes into a device full of other ones, of so many sectors of so many bytes, with pages of
-//!   1,024 bytes, by the algorithm A1. It prints the status, and whether the cells are the image. The time that it takes is to be measured from
-//!   outside. `random SECTORS SIZE FOLDER` puts the files of the same job into a folder, for `flm_tool`, and runs nothing.
-//! - `stops PICK WORDS`: calls of `program` or `begin` that are stopped at each of their calls in turn. A job that is left, also by `begin` once
-//!   it is done, is carried on by `resume`, and from the same stop back by `revert`.
-//! - `tenths PICK WORDS`: the same at every tenth call, with an algorithm that breaks its duties. A job that is left is resumed as it is, and
-//!   with the algorithm A1 in it.
-//! - `faults WORDS`: calls of which each call on the job file, on the cells, each put on either stream and each taking of a file fails in its
-//!   turn. A job that is left is resumed.
-//! - `pairs COUNT WORDS`: calls of `program` of which every pair of the first so many calls on the job file fails; each job is gone on with to
-//!   its end.
-//! - `words PATH`: of each line of a file, the line and what its words ask for.
+//! - `random SECTORS SIZE`: a job that brings random bytes into a device full of other ones. The device has SECTORS sectors of SIZE bytes
+//!   and pages of 1,024 bytes, and the algorithm is A1. It prints the status, and whether the cells are the image. The time that it takes
+//!   is measured from outside. `random SECTORS SIZE FOLDER` puts the files of the same job into a folder, for `flm_tool`, and runs nothing.
+//! - `stops PICK WORDS`: calls of `program` or `begin` that are stopped at each of their calls in turn. A job that is left is carried on by
+//!   `resume`, and from the same stop back by `revert`. So is the job that a finished `begin` leaves.
+//! - `tenths PICK WORDS`: calls that are stopped at every tenth of their calls, with an algorithm that breaks its duties. A job that is
+//!   left is resumed as it is, and with the algorithm A1 in it.
+//! - `faults WORDS`: calls in which each call on the job file and on the cells, each put on either stream and each taking of a file fails
+//!   in turn. A job that is left is resumed.
+//! - `pairs COUNT WORDS`: calls of `program`. Every pair of the first COUNT calls on the job file fails. Each job is then carried to its
+//!   end.
+//! - `words PATH`: prints each line of a file, and what its words ask for.
 
 use crate::memory::files::lay;
 use crate::memory::job::run_random;
@@ -45,7 +46,7 @@ use row_text::{bytes_of, lines_of};
 use std::alloc::Global;
 use std::fs;
 
-/// The first word of a text, and what stands behind its blank.
+/// The first word of a text, and what comes after its blank.
 pub fn first_of(text: &str) -> (&str, &str) {
     match text.split_once(' ') {
         Some(parts) => parts,
@@ -102,7 +103,7 @@ fn step(
     }
 }
 
-/// Prints whether the job file is that under a name, but for its first byte.
+/// Prints whether the job file is the file with a name, except for its first byte.
 fn same_body(
     rt: &HostRuntime,
     trial: &Trial,
@@ -121,7 +122,7 @@ fn same_body(
     Ok(())
 }
 
-/// Changes what a row meets.
+/// Changes the start of a row.
 fn change(rt: &HostRuntime, trial: &mut Trial, what: &str, rest: &str) -> Result<()> {
     let (first, second) = first_of(rest);
     match what {
@@ -144,7 +145,7 @@ fn change(rt: &HostRuntime, trial: &mut Trial, what: &str, rest: &str) -> Result
     }
 }
 
-/// The bytes that a line puts under a name.
+/// The bytes that a line gives to a name.
 fn contents(rt: &HostRuntime, trial: &Trial, what: &str, text: &str) -> Result<Vec<u8>> {
     Ok(match what {
         "file" => fs::read(rt, text)?,
@@ -155,7 +156,7 @@ fn contents(rt: &HostRuntime, trial: &Trial, what: &str, text: &str) -> Result<V
     })
 }
 
-/// A number of decimal digits.
+/// The number that decimal digits give.
 pub fn number(digits: &str) -> Result<usize> {
     Ok(digits.parse::<usize>()?)
 }
@@ -177,7 +178,7 @@ fn change_bench(
     Ok(())
 }
 
-/// The same at a place, or by a number.
+/// Changes the job file or the cells at a place, or the call that fails by its number.
 fn change_at(
     alloc: Global,
     trial: &mut Trial,

@@ -1,4 +1,4 @@
-//! Commands of which two calls on the job file fail.
+//! Commands in which two calls on the job file fail.
 
 use crate::memory::call::status_of;
 use crate::memory::counts::{Counts, STATUSES};
@@ -10,17 +10,17 @@ use anyhow::{Context, Result, bail, ensure};
 use bench_model::MemoryBench;
 use std::alloc::Global;
 
-/// What came of pairs of faults: how often the command and `resume` were called, and the statuses.
+/// The outcomes of pairs of faults: how often the command and `resume` were called, and the statuses.
 #[derive(Clone, Copy)]
 struct Pairs {
     called: Counts,
     statuses: Counts,
 }
 
-/// How a call is named: the command itself, and `resume`.
+/// The names of calls: the command itself, and `resume`.
 const CALLED: [&str; 2] = ["begun", "resumed"];
 
-/// Lets every pair of the first calls on the job file fail. Prints how many pairs there were, and what was called.
+/// Lets every pair of the first calls on the job file fail. Prints how many pairs there were, and how often each command was called.
 pub fn fail_pairs(
     rt: &HostRuntime,
     trial: &Trial,
@@ -44,7 +44,7 @@ pub fn fail_pairs(
     Ok(())
 }
 
-/// Lets each call before the one of a number fail together with it.
+/// Lets each call before the one with a number fail together with it.
 fn bring_with(
     alloc: Global,
     trial: &Trial,
@@ -59,7 +59,7 @@ fn bring_with(
     Ok(())
 }
 
-/// Goes on until a command is done, where two calls on the job file fail.
+/// Calls until a command is done, where two calls on the job file fail.
 fn bring(
     alloc: Global,
     trial: &Trial,
@@ -74,7 +74,7 @@ fn bring(
     bring_on(alloc, trial, aims, line, &mut bench, pairs)
 }
 
-/// The same on this bench: calls the command, or `resume` where a job is left. Three calls are enough.
+/// Calls the command on this bench, or `resume` where a job is left, until it is done. Three calls are enough.
 fn bring_on(
     alloc: Global,
     trial: &Trial,

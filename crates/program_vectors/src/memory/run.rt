@@ -1,4 +1,4 @@
-//! Calls one by one, and what comes of them.
+//! Makes calls one by one, and prints their outcomes.
 
 use crate::memory::call::{call, stopped};
 use crate::memory::lines::first_of;
@@ -10,7 +10,7 @@ use anyhow::{Result, bail};
 use bench_model::MemoryBench;
 use std::alloc::Global;
 
-/// Makes a call on the row's bench, which begins with the first one, and prints what comes of it.
+/// Makes a call on the row's bench, which begins with the first call, and prints its outcome.
 pub fn run(
     rt: &HostRuntime,
     trial: &Trial,
@@ -29,7 +29,7 @@ pub fn run(
     Ok(())
 }
 
-/// Makes a call on a new bench, and prints what comes of it.
+/// Makes a call on a new bench, and prints its outcome.
 pub fn run_apart(rt: &HostRuntime, trial: &Trial, line: &str) -> Result<()> {
     let mut bench = trial.bench(rt.alloc())?;
     say(rt, trial, &mut bench, line, true)
@@ -58,7 +58,7 @@ fn say(
     Ok(())
 }
 
-/// Stops a call on a new bench, which is the row's from then on, and prints what that leaves: `CALLS PICK WORDS`.
+/// Stops a call on a new bench, which is the row's bench from then on, and prints what the stop leaves: `CALLS PICK WORDS`.
 pub fn stop(
     rt: &HostRuntime,
     trial: &Trial,
@@ -71,13 +71,13 @@ pub fn stop(
     Ok(())
 }
 
-/// Begins a row with what a call leaves that is stopped: `CALLS PICK WORDS`.
+/// Begins a row with what a stopped call leaves: `CALLS PICK WORDS`.
 pub fn keep(alloc: Global, trial: &mut Trial, text: &str) -> Result<()> {
     let left = stopped_by(alloc, trial, text)?;
     trial.begin_with(alloc, left.cells(), left.file())
 }
 
-/// The bench that a call leaves that is stopped: `CALLS PICK WORDS`.
+/// The bench that a stopped call leaves: `CALLS PICK WORDS`.
 fn stopped_by(alloc: Global, trial: &Trial, text: &str) -> Result<MemoryBench> {
     let (calls, rest) = first_of(text);
     let (pick, line) = first_of(rest);
@@ -85,7 +85,7 @@ fn stopped_by(alloc: Global, trial: &Trial, text: &str) -> Result<MemoryBench> {
     Ok(end.bench)
 }
 
-/// Prints the cells that aren't these, and what became of this job file.
+/// Prints the cells that differ from these, and what became of this job file.
 fn print_bench(rt: &HostRuntime, cells: &[u8], file: &[u8], bench: &MemoryBench) {
     print_cells(rt, cells, bench.cells());
     let state = match bench.file() {
@@ -97,7 +97,7 @@ fn print_bench(rt: &HostRuntime, cells: &[u8], file: &[u8], bench: &MemoryBench)
     put_line(rt, state);
 }
 
-/// Prints how many cells aren't as the row began, and the first four of them.
+/// Prints how many cells have changed since the row began, and the first four of them.
 pub fn print_cells(rt: &HostRuntime, before: &[u8], after: &[u8]) {
     let mut others = 0usize;
     for (place, (old, new)) in before.iter().zip(after.iter()).enumerate() {

@@ -1,4 +1,4 @@
-//! Commands of which each call in its turn is the last, or fails.
+//! Commands that are stopped at each of their calls in turn, or in which each call in turn fails.
 
 use crate::memory::call::{Ended, call, call_over, status_of, stopped};
 use crate::memory::counts::{Counts, STATUSES};
@@ -13,8 +13,9 @@ use anyhow::{Context, Result, bail, ensure};
 use bench_model::{MemoryBench, Pick};
 use std::alloc::Global;
 
-/// What happens to the calls of a command: each in its turn is the last, with this pick; each tenth is, with an algorithm that breaks its
-/// duties, where the job of the one that keeps them ended so; or each on this object fails in its turn.
+/// What happens to the calls of a command. `Stops`: each call in turn is the last one, with this pick. `Tenths`: each tenth call is the
+/// last one, with an algorithm that breaks its duties; the job with the algorithm that keeps them ended as given. `Fails`: each call on
+/// this object fails in its turn.
 #[derive(Clone, Copy)]
 enum Way<'a> {
     Stops(Pick),
@@ -22,8 +23,8 @@ enum Way<'a> {
     Fails(&'a str),
 }
 
-/// How often which was left; how often which status came of calls that failed; and of `resume`, with the job's own algorithm, and where that was
-/// exchanged for the one that keeps its duties.
+/// How often each kind was left, and how often each status came. There are the statuses of calls that failed, of `resume` with the job's
+/// own algorithm, and of `resume` with the algorithm that keeps its duties.
 #[derive(Clone, Copy)]
 struct Ends {
     left: Counts,
@@ -32,11 +33,11 @@ struct Ends {
     kept: Counts,
 }
 
-/// The job of the algorithm that keeps its duties.
+/// The call with the algorithm that keeps its duties.
 const KEPT: &str = "program small a1 one";
 
-/// What can fail, by the name that is printed and by that of a row: calls on the job file and on the cells, puts on the two streams, and taking
-/// a file.
+/// What can fail: calls on the job file and on the cells, puts on the two streams, and taking a file. Each has the name that is printed and
+/// that of a row.
 const OBJECTS: [(&str, &str); 5] = [
     ("file", "file"),
     ("cells", "cells"),
@@ -45,7 +46,7 @@ const OBJECTS: [(&str, &str); 5] = [
     ("take", "take"),
 ];
 
-/// The pick of a name: the file as written or as it was synced, or a byte wherever a stop may leave any.
+/// The pick with a name: the file as written or as it was synced, or a byte wherever a stop may leave any.
 pub fn pick_of(name: &str) -> Result<Pick> {
     Ok(match name {
         "written" => Pick::AsWritten,
@@ -56,7 +57,7 @@ pub fn pick_of(name: &str) -> Result<Pick> {
     })
 }
 
-/// Makes calls that are stopped, or of which some fail, one after the other.
+/// Makes calls one after the other that are stopped, or that have a failing call.
 pub fn sweep_by(rt: &HostRuntime, trial: &Trial, what: &str, rest: &str) -> Result<()> {
     let (first, line) = match what {
         "faults" => ("", rest),
@@ -66,7 +67,7 @@ pub fn sweep_by(rt: &HostRuntime, trial: &Trial, what: &str, rest: &str) -> Resu
     sweep_to(rt, trial, &aims, what, first, line)
 }
 
-/// The same, where the call comes to this.
+/// Makes these calls, where the call without a fault has this outcome.
 fn sweep_to(
     rt: &HostRuntime,
     trial: &Trial,
@@ -90,7 +91,7 @@ fn stop_tenths(rt: &HostRuntime, trial: &Trial, aims: &Aims, pick: &str, line: &
     sweep(rt, trial, aims, line, pick, Way::Tenths(left, &kept))
 }
 
-/// Prints what a call comes to where nothing fails, and lets each call on each object fail in its turn.
+/// Prints the outcome of a call where nothing fails, and lets each call on each object fail in its turn.
 fn fail_each(rt: &HostRuntime, trial: &Trial, aims: &Aims, line: &str) -> Result<()> {
     put(
         rt,
@@ -103,7 +104,7 @@ fn fail_each(rt: &HostRuntime, trial: &Trial, aims: &Aims, line: &str) -> Result
     Ok(())
 }
 
-/// Goes over the calls of a command, up to the number that no call has. Prints how many there were, and what came.
+/// Goes over the calls of a command, up to the first number that no call has. Prints how many there were, and the outcomes.
 fn sweep(
     rt: &HostRuntime,
     trial: &Trial,
@@ -149,7 +150,7 @@ fn is_done(
     }
 }
 
-/// Prints how many calls there were, and what came.
+/// Prints how many calls there were, and the outcomes.
 fn print_ends(rt: &HostRuntime, title: &str, number: u64, way: Way<'_>, ends: &Ends) {
     let (behind, stops) = match way {
         Way::Fails(_) => (" ", ""),
@@ -171,8 +172,8 @@ fn print_ends(rt: &HostRuntime, title: &str, number: u64, way: Way<'_>, ends: &E
     }
 }
 
-/// What `program` or `begin` left that was stopped. A job that is left is carried on, and from the same stop back. Whether the command came to
-/// its end before.
+/// Looks at what a stopped `program` or `begin` left. A job that is left is carried on, and from the same stop back. Answers whether the
+/// command reached its end before the stop.
 fn follow(alloc: Global, trial: &Trial, aims: &Aims, end: &Ended, ends: &mut Ends) -> Result<bool> {
     let left = aims.look(trial, &end.bench).context(OTHER)?;
     if left == Left::Whole {
@@ -192,8 +193,8 @@ fn follow(alloc: Global, trial: &Trial, aims: &Aims, end: &Ended, ends: &mut End
     Ok(false)
 }
 
-/// What `program` left that was stopped, with an algorithm that breaks its duties. A job that is left is resumed, as it is and with the algorithm
-/// that keeps its duties. Whether `program` came to its end before.
+/// Looks at what a stopped `program` left, with an algorithm that breaks its duties. A job that is left is resumed, as it is and with the
+/// algorithm that keeps its duties. Answers whether `program` reached its end before the stop.
 fn follow_tenth(
     alloc: Global,
     trial: &Trial,
@@ -219,7 +220,8 @@ fn follow_tenth(
     Ok(false)
 }
 
-/// Lets the call behind so many on an object fail. A job that is left is resumed. Whether the command answers as if nothing failed.
+/// Lets the call after the first `number` calls on an object fail. A job that is left is resumed. Answers whether the command answers as if
+/// nothing failed.
 fn fail(
     alloc: Global,
     trial: &Trial,
@@ -235,7 +237,8 @@ fn fail(
     fail_on(alloc, trial, aims, line, fails, &mut bench, ends)
 }
 
-/// The same on this bench.
+/// Makes the call on this bench, on which one call fails. A job that is left is resumed. Answers whether the command answers as if nothing
+/// failed.
 fn fail_on(
     alloc: Global,
     trial: &Trial,
@@ -257,7 +260,7 @@ fn fail_on(
     Ok(is_done)
 }
 
-/// What is left where a call failed. A job that is left is resumed.
+/// What is left after a call failed. A job that is left is resumed.
 fn left_after(alloc: Global, trial: &Trial, aims: &Aims, bench: &mut MemoryBench) -> Result<Left> {
     let left = aims.look(trial, bench).context(OTHER)?;
     if left == Left::Whole {

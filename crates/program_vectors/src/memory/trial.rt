@@ -1,4 +1,4 @@
-//! What a row meets.
+//! What a row begins with.
 ghost use Rattle.std.specs.Prelude.{◌≡◌, IfOk, None};
 ghost use Rattle.bench_model.specs.Shown.{bench_of};
 
@@ -7,8 +7,8 @@ use anyhow::{Context, Result, bail};
 use bench_model::{Bench, MemoryBench};
 use std::alloc::Global;
 
-/// The calls that are to fail, by their numbers from 1, and 0 for none: two on the job file, one on the cells, a put on standard output, a put
-/// on standard error, and a file that is taken.
+/// The numbers of the calls that fail, from 1 on, and 0 for none. They count calls on the job file (two may fail), calls on the cells, puts
+/// on standard output, puts on standard error, and files that are taken.
 #[derive(Clone, Copy)]
 pub struct Fails {
     pub files: [u64; 2],
@@ -19,7 +19,7 @@ pub struct Fails {
 }
 
 impl Fails {
-    /// None.
+    /// No call fails.
     pub fn none() -> Fails {
         Fails {
             files: [0, 0],
@@ -30,8 +30,8 @@ impl Fails {
         }
     }
 
-    /// Lets the call of this number fail: a call on the job file or on the cells, a put on standard output or on standard error, or the taking
-    /// of a file.
+    /// Lets the call of this number on an object fail. The object is the job file, the cells, standard output, standard error, or the files
+    /// that are taken.
     pub fn set(&mut self, object: &str, number: u64) -> Result<()> {
         match object {
             "file" => self.files = [number, 0],
@@ -45,8 +45,8 @@ impl Fails {
     }
 }
 
-/// The files; the room for the job file and for the record of the calls; the bytes of the job file and the cells with which a bench begins,
-/// and the operation that is open on them; and the calls that are to fail.
+/// What a row has: its files, the room for the job file and for the record of the calls, and the calls that fail. A bench begins with the
+/// row's job file, cells and open operation.
 #[derive(Drop)]
 pub struct Trial {
     pub files: Files,
@@ -60,7 +60,7 @@ pub struct Trial {
 /// The most cells: 64 MiB, the longest file that is taken.
 pub const MOST: usize = 1 << 26;
 
-/// The room for the job file, and for the record of the calls, where no more is asked for.
+/// The room for the job file, and for the record of the calls, unless more is asked for.
 const ROOM: u64 = 1 << 18;
 
 impl Trial {
@@ -95,7 +95,7 @@ impl Trial {
         }
     }
 
-    /// The job file or the cells are the file under a name.
+    /// Makes the file with a name the job file or the cells.
     pub fn take(&mut self, alloc: Global, object: &str, name: &str) -> Result<()> {
         let bytes = copy(alloc, self.files.bytes(name)?)?;
         match object {
@@ -105,14 +105,14 @@ impl Trial {
         Ok(())
     }
 
-    /// The row begins with these cells and this job file.
+    /// Makes the row begin with these cells and this job file.
     pub fn begin_with(&mut self, alloc: Global, cells: &[u8], job: &[u8]) -> Result<()> {
         self.cells = copy(alloc, cells)?;
         self.job = copy(alloc, job)?;
         Ok(())
     }
 
-    /// Changes the byte of the job file that stands so many places before its end.
+    /// Changes the byte of the job file that is `back` places before its end.
     pub fn spoil(&mut self, back: usize) -> Result<()> {
         let place = self.job.len().checked_sub(back).context("no such byte")?;
         let byte = self.job.get_mut(place).context("no such byte")?;
@@ -135,7 +135,7 @@ impl Trial {
         Ok(bench)
     }
 
-    /// A bench with these cells and this job file, and no operation. What is broken off first leaves 5A.
+    /// A bench with these cells and this job file, and no open operation. The first operation that is broken off leaves 5A.
     pub fn bench_with(
         &self,
         alloc: Global,

@@ -77,7 +77,7 @@ fn put_quiet(rt: &HostRuntime, ranges: &[QuietRange]) {
     }
 }
 
-/// A key's name among those of the region, or among those of the text itself.
+/// The name of a key among those of the region, or among those of the text itself.
 fn name_in(key: &str, in_region: bool) -> Option<&str> {
     if in_region {
         key.strip_prefix("region.")
@@ -86,7 +86,7 @@ fn name_in(key: &str, in_region: bool) -> Option<&str> {
     }
 }
 
-/// Appends a line of a board, with another value where it is that of the key, or nothing where that is empty.
+/// Appends a line of a board. A line with the key gets the other value, or is left out where that value is empty.
 fn push_line(text: &mut String, line: &str, key: Option<&str>, value: &str) -> Result<()> {
     let name = line.split(" =").next().unwrap_or("");
     if key != Some(name) {
@@ -100,7 +100,7 @@ fn push_line(text: &mut String, line: &str, key: Option<&str>, value: &str) -> R
     Ok(())
 }
 
-/// The text of a board in which one key has another value, or is left out where that is empty.
+/// The text of a board with another value for one key. Where the value is empty, the key is left out.
 fn changed(alloc: Global, base: &str, key: &str, value: &str) -> Result<String> {
     let mut text = String::new(alloc);
     let mut in_region = false;
@@ -113,14 +113,14 @@ fn changed(alloc: Global, base: &str, key: &str, value: &str) -> Result<String> 
     Ok(text)
 }
 
-/// Answers a text, behind what it is called.
+/// Answers a text, after its name.
 fn answer_named<'a>(rt: &HostRuntime, name: &'a str, end: &'a str, text: &str) {
     put(rt, &[Text(name), Text(end)]);
     put_answer(rt, text.as_bytes());
 }
 
-/// Answers a board in which one key has another value: `KEY = VALUE`. Where the value is empty, the key is left out. A key of
-/// the region is told with `region.` before it.
+/// Answers a board in which one key has another value: `KEY = VALUE`. Where the value is empty, the key is left out. A key of the region
+/// has `region.` before its name.
 pub fn answer_change(rt: &HostRuntime, base: &str, change: &str) -> Result<()> {
     let (key, value) = change.split_once(" =").context("KEY = VALUE is wanted")?;
     let text = changed(rt.alloc(), base, key, value)?;

@@ -1,4 +1,4 @@
-//! A number that tells lists of bytes apart: FNV-1a of 32 bits (Fowler, Noll and Vo).
+//! A number that distinguishes lists of bytes: FNV-1a of 32 bits (Fowler, Noll and Vo).
 
 use board_file::{Board, Region};
 use byte_map::ByteMap;

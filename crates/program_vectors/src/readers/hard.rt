@@ -17,7 +17,7 @@ pub fn read(rt: &HostRuntime, words: &[&str]) -> Result<()> {
     }
 }
 
-/// Reads some of each.
+/// Reads some files of each kind.
 pub fn read_some(rt: &HostRuntime) -> Result<()> {
     map::run(rt, &["hostile"])?;
     sections::run(rt, &["colliding", "40", "colliding.bin"])?;

@@ -1,6 +1,6 @@
 //! Image files that other tools wrote. A name that ends in `hex` is read as Intel HEX, any other as S-records. A name that begins with
-//! `refused` is a table: each of its lines is what it shows, and then a text by itself, where `|` stands for a line feed; the fault of each is
-//! printed.
+//! `refused` is a table. Each of its lines has what it shows, and then a text, in which `|` stands for a line feed. The fault of each text
+//! is printed.
 
 use crate::print::Piece::{Count, Hex8, Text};
 use crate::print::{put, put_fault};
@@ -31,7 +31,7 @@ fn text_of(alloc: Global, line: &str) -> Result<Vec<u8>> {
     Ok(text)
 }
 
-/// Prints the fault of a table's text, behind what it shows.
+/// Prints what a line of a table shows, and then the fault of its text.
 fn print_fault<'a>(rt: &HostRuntime, name: &'a str, line: &'a str) -> Result<()> {
     let (shows, text) = line.split_once("; ").context("what it shows is wanted")?;
     put(rt, &[Text(name), Text(": "), Text(shows), Text(": ")]);

@@ -14,15 +14,15 @@ use std::fmt::Display;
 /// A reader of files.
 #[derive(Clone, Copy)]
 pub enum Reader {
-    /// Of Intel HEX.
+    /// The reader of Intel HEX.
     Hex,
-    /// Of S-records.
+    /// The reader of S-records.
     Srec,
-    /// Of an ELF file and the bytes of its segments.
+    /// The reader of an ELF file and of the bytes of its segments.
     Elf,
-    /// Of an FLM file.
+    /// The reader of FLM files.
     Flm,
-    /// Of a job file.
+    /// The reader of job files.
     Job,
 }
 
@@ -39,7 +39,7 @@ impl Reader {
         }
     }
 
-    /// What the reader answers to a file: why it is refused, or what kind of thing it reads there, with the digest of all that it says.
+    /// The reader's answer to a file: why it is refused, or what kind of thing it is, with the digest of all that it says.
     pub fn answer(self, alloc: Global, file: &[u8]) -> Result<String> {
         match self {
             Reader::Hex => of_hex(alloc, file),
@@ -51,17 +51,17 @@ impl Reader {
     }
 }
 
-/// A thing that was read, with the digest of all that it says.
+/// The text for a thing that was read, with the digest of all that it says.
 fn said(alloc: Global, thing: &str, digest: &Digest) -> Result<String> {
     Ok(format!(in alloc; "{thing} {:08X}", digest.value())?)
 }
 
-/// What tells of itself: a fault, or a word.
+/// The text of a fault or of a word.
 fn told<D: Display + Drop>(alloc: Global, what: D) -> Result<String> {
     Ok(format!(in alloc; "{what}")?)
 }
 
-/// An image that was read.
+/// The text for an image that was read.
 fn said_by_image(alloc: Global, image: &ByteMap) -> Result<String> {
     let mut digest = Digest::new();
     digest.image(image);
@@ -103,7 +103,7 @@ fn of_elf(alloc: Global, file: &[u8]) -> Result<String> {
     }
 }
 
-/// An algorithm that was read.
+/// The text for an algorithm that was read.
 fn said_by_algorithm(alloc: Global, algorithm: &Algorithm) -> Result<String> {
     let mut digest = Digest::new();
     digest.algorithm(algorithm);
@@ -122,14 +122,14 @@ fn of_job(alloc: Global, file: &[u8]) -> Result<String> {
     of_class(alloc, &class, file.len())
 }
 
-/// A job that was read.
+/// The text for a job that was read.
 fn said_by_job(alloc: Global, job: &Job) -> Result<String> {
     let mut digest = Digest::new();
     digest.job(job);
     said(alloc, "Job", &digest)
 }
 
-/// What a job file of so many bytes is.
+/// The text for the class of a job file of `len` bytes.
 fn of_class(alloc: Global, class: &Class, len: usize) -> Result<String> {
     match class {
         Class::Free => told(alloc, "Free"),

@@ -7,10 +7,10 @@ use anyhow::{Context, Result, bail};
 use std::alloc::Global;
 use std::fs;
 
-/// What the 16-bit field at a place becomes.
+/// The values that the 16-bit field at a place becomes.
 const HALVES: [&[u8]; 4] = [b"\0\0", b"\x01\0", b"\0\x80", b"\xFF\xFF"];
 
-/// What the 32-bit field there becomes.
+/// The values that the 32-bit field at a place becomes.
 const WORDS: [&[u8]; 4] = [
     b"\0\0\0\0",
     b"\x01\0\0\0",
@@ -21,7 +21,7 @@ const WORDS: [&[u8]; 4] = [
 /// What is done with a file at a place of it.
 #[derive(Clone, Copy)]
 enum How {
-    /// It ends there.
+    /// The file ends there.
     Prefix,
     /// The byte there becomes 00, FF and its complement.
     Byte,
@@ -33,7 +33,7 @@ enum How {
     Word,
 }
 
-/// The places of a file from one on and before another, each so many behind the last, and what is done there.
+/// The places of a file from one on and before another, each `step` after the last, and what is done there.
 #[derive(Clone, Copy)]
 struct Sweep {
     reader: Reader,
@@ -44,7 +44,7 @@ struct Sweep {
 }
 
 impl How {
-    /// What is named so.
+    /// The way with this name.
     fn named(word: &str) -> Option<How> {
         match word {
             "prefix" => Some(How::Prefix),
@@ -158,7 +158,7 @@ fn go(rt: &HostRuntime, words: &[&str]) -> Result<()> {
     put_sweep_of(rt, &sweep, name)
 }
 
-/// Goes through a sweep, after what it shows.
+/// Goes through a sweep, after it prints what the sweep shows.
 fn go_line(rt: &HostRuntime, line: &str) -> Result<()> {
     put_line(rt, line);
     let (_shows, words) = line.split_once("; ").context("what it shows is wanted")?;

@@ -13,7 +13,7 @@ struct Kind {
     count: usize,
 }
 
-/// How often each kind of answer came, in the order in which they came first, and the digest of all answers in their order.
+/// How often each kind of answer came, in the order of their first answers, and the digest of all answers in order.
 #[derive(Drop)]
 pub struct Tally {
     kinds: Vec<Kind>,

@@ -35,8 +35,8 @@ fn put_cells(cells: &mut Vec<u8>, count: usize) -> Result<()> {
     Ok(())
 }
 
-/// Puts the texts of the small board, with the FLM file, the address, the bytes that are to stand there and the number of cells that count of
-/// some words.
+/// Takes the texts of the small board, and what some words say: the FLM file, the address, the bytes to put there, and how many cells hold
+/// their place.
 fn fill(rt: &HostRuntime, texts: &mut Texts, words: &[&str]) -> Result<()> {
     let [flm, at, image, count] = words else {
         bail!("no job");
@@ -49,7 +49,7 @@ fn fill(rt: &HostRuntime, texts: &mut Texts, words: &[&str]) -> Result<()> {
 }
 
 impl Job {
-    /// The job of some words: its FLM file, an address, the bytes that are to stand there, and how many cells count.
+    /// The job that some words describe: its FLM file, an address, the bytes to put there, and how many cells hold their place.
     pub fn read(rt: &HostRuntime, words: &[&str]) -> Result<Job> {
         let mut texts = Texts::empty(rt.alloc());
         fill(rt, &mut texts, words)?;

@@ -9,9 +9,9 @@
 //! - `alone`: carries the job of each target alone, and prints how it ends, and whether the cells are then the image over the snapshot.
 //! - `turns ORDER STEPS`: a gang that has turns of at most STEPS steps. The order is `forward`, `backward` or a number, which is the seed
 //!   of a drawn order.
-//! - `takes COUNT...`: how many turns the job of each target takes alone where a turn may have all steps of a call. A phase takes one for its
-//!   reset with the load and two for each of its calls, its preparing and its run; then come the last reset, one comparison for 4,096 cells
-//!   and the close, up to the turn that ends it.
+//! - `takes COUNT...`: how many turns the job of each target takes alone where a turn may have all steps of a call. A phase takes one turn
+//!   for its reset with the load, and two for each of its calls: one prepares it, the other runs it. Then come the last reset, one
+//!   comparison for 4,096 cells and the close, up to the turn that ends the job.
 //! - `lists COUNT`: COUNT gangs, each with 64 drawn turns of drawn lengths, and then rounds to the end.
 //! - `stops COUNT`: COUNT gangs, each stopped after drawn turns, with each pick. A second gang carries on what is left, and so does each
 //!   target alone.

@@ -60,7 +60,7 @@ pub fn read_changed(rt: &HostRuntime, job: &[u8], name: &str) -> Result<()> {
     Ok(())
 }
 
-/// How many of some files are of a class.
+/// How many files there are of each class.
 #[derive(Clone, Copy, Default)]
 struct Count {
     free: u64,

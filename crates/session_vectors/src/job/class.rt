@@ -27,7 +27,7 @@ impl fmt::Display for Found {
     }
 }
 
-/// What a file is. If it stands for a job, it is either `job`, the file of the known one, or that of another job.
+/// What a file is. A file that stands for a job is either `job` itself, or that of another job.
 pub fn class(alloc: Global, file: &[u8], job: &[u8]) -> Result<Found> {
     let stands = if file == job {
         Found::Job

@@ -13,7 +13,7 @@ use std::alloc::Global;
 /// More calls than a job takes that is begun and closed.
 const CALLS: u64 = 23;
 
-/// Begins a job, and closes it where that is asked for.
+/// Begins a job, and closes it if `closes` says so.
 pub fn begin_job<B: Bench>(
     alloc: Global,
     bench: &mut B,
@@ -134,7 +134,7 @@ fn begin_busy(rt: &HostRuntime, parts: &JobParts, job: &[u8]) -> Result<()>
     put_busy(rt, &bench, job)
 }
 
-/// Says what a job holds that was begun so.
+/// Says what the job holds that was begun while an operation was open.
 fn put_busy(rt: &HostRuntime, bench: &MemoryBench, job: &[u8]) -> Result<()> {
     let broken = bench.cells().iter().filter(|cell| **cell == 0x5A).count();
     println!(rt;

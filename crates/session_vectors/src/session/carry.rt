@@ -30,7 +30,7 @@ pub enum Carried {
     StoreFault,
 }
 
-/// Goes to the goal of the session's last survey, and closes the job there where that is asked for.
+/// Goes to the goal of the session's last survey, and closes the job there if `closes` says so.
 fn finish<B: Bench>(session: &mut Session, bench: &mut B, closes: bool) -> Carried
     requires surveyed { IsSome (surveyed session.old) }
     requires count { (B.state bench.old).cell_count ≡ size_of (job_in session.old).board.regions }

@@ -54,7 +54,7 @@ impl Job {
         }
     }
 
-    /// The job that some words name: its board, its FLM file, an address with the bytes that are to stand there, and its cells.
+    /// The job that some words name: its board, its FLM file, an address with the bytes to put there, and its cells.
     pub fn read(rt: &HostRuntime, words: &[&str]) -> Result<Job> {
         let mut job = Job::empty(rt.alloc());
         job.fill(rt, words)?;

@@ -29,7 +29,7 @@ fn pick_of(word: &str) -> Result<Pick> {
     })
 }
 
-/// Whether a bench has the cells of some words.
+/// Whether a bench has the cells that some words give.
 fn has_cells(alloc: Global, bench: &MemoryBench, words: &[&str]) -> Result<bool> {
     let cells = all_bytes(alloc, words)?;
     Ok(bench.cells() == cells.as_slice())

@@ -46,7 +46,7 @@ fn ends(rt: &HostRuntime, job: &Job, goal: &[u8], calls: u64, pick: Pick) -> Res
     Ok(ended)
 }
 
-/// At how many calls sessions are stopped before they come to their end. It stops them at each of these, with each pick.
+/// Stops sessions at each of their calls, with each pick. Answers how many calls there were before a session reached its end.
 fn count_stops(rt: &HostRuntime, job: &Job, goal: &[u8]) -> Result<u64> {
     for calls in 0..100_000u64 {
         let mut ended = true;

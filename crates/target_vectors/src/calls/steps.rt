@@ -77,7 +77,7 @@ fn reset(trial: &mut Trial, due: &[&str]) -> Result<bool> {
     }
 }
 
-/// Whether the cells are those of some words.
+/// Whether the cells are those that some words give.
 fn holds_cells(trial: &Trial, words: &[&str], alloc: Global) -> Result<bool> {
     let cells = all_bytes(alloc, words)?;
     Ok(trial.cells() == cells.as_slice())

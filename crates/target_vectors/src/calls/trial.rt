@@ -18,7 +18,8 @@ use std::alloc::Global;
 use std::result;
 use target_core::{Machine, SliceEnd};
 
-/// A machine with an algorithm, the arena whose second window is its RAM, and the bench, whose open operation is the controller's.
+/// A machine with an algorithm, an arena with the machine's RAM as its second window, and a bench. The operation that is open on the bench
+/// is the controller's.
 #[derive(Drop)]
 pub struct Trial {
     calls: CallsIn,

@@ -24,7 +24,7 @@ fn end(word: &str) -> Option<BusEnd> {
     None
 }
 
-/// Whether a step without a value ended so.
+/// Whether a step without a value ended as is due.
 fn ended(found: result::Result<(), BusEnd>, due: &str) -> bool {
     match found {
         Ok(()) => due == "ok",
@@ -32,7 +32,7 @@ fn ended(found: result::Result<(), BusEnd>, due: &str) -> bool {
     }
 }
 
-/// Whether a load ended so.
+/// Whether a load ended as is due.
 fn loaded(found: result::Result<u32, BusEnd>, due: &str) -> Result<bool> {
     match found {
         Ok(value) => Ok(end(due).is_none() && value == number(due)?),

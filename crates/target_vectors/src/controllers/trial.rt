@@ -9,7 +9,7 @@ use flash_driver::{Driver, Registers};
 use std::alloc::Global;
 use std::result;
 
-/// A controller and its bench, whose open operation is the controller's.
+/// A controller and its bench. The operation that is open on the bench is the controller's.
 #[derive(Drop)]
 pub struct Trial<R> {
     driver: Driver<R>,

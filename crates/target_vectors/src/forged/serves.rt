@@ -68,8 +68,8 @@ fn put_code_on(rt: &HostRuntime, board: &Board) -> Result<()> {
     Ok(())
 }
 
-/// The questions on the small board: A1 with the shortest and the longest page, with a page that is too short and one that is too long, and
-/// the algorithms that don't do as they should.
+/// The questions on the small board: A1 with the shortest and the longest page, A1 with a page too short and one too long, and the
+/// algorithms that aren't A1.
 const SMALL: [(Kind, u32); 10] = [
     (Kind::A1, 64),
     (Kind::A1, 2776),

@@ -15,7 +15,7 @@ fn decode(first: u16, second: &str) -> Result<Option<Instr>> {
     })
 }
 
-/// Whether an instruction at an address is written so.
+/// Whether an instruction at an address has this statement.
 fn is_written(instr: &Instr, at: u32, due: &str) -> bool {
     let mut line = Line::new();
     disassemble(instr, at, &mut line);

@@ -8,7 +8,7 @@ use armv6m_step::{Core, MemoryBus, StepEnd, step};
 use row_text::{bytes_of, number};
 use std::alloc::{AllocError, Global};
 
-/// Where the memory begins, and where the instruction stands in it.
+/// The first address of the memory, and the address of the instruction in it.
 pub const BASE: u32 = 0x2000_0000;
 
 pub const HERE: u32 = BASE + 0x40;
@@ -17,7 +17,7 @@ const DATA: [u8; 16] = [
     0x80, 0xF1, 0x42, 0xC3, 0x11, 0x22, 0x33, 0x44, 0x99, 0xAA, 0xBB, 0xCC, 0x0D, 0x0E, 0x0F, 0x10,
 ];
 
-/// A core with nothing but an address.
+/// A core in which only the PC is set.
 pub fn core_at(pc: u32) -> Core {
     let mut core = Core {
         regs: [0; 16],

@@ -24,7 +24,7 @@ const CODE: u32 = 32;
 /// The most steps.
 const FUEL: u64 = 1 << 40;
 
-/// A target and its bench, whose open operation is the controller's.
+/// A target and its bench. The operation that is open on the bench is the controller's.
 #[derive(Drop)]
 pub struct Bed<B: Bench + Drop> {
     target: Target,

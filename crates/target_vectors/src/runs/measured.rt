@@ -19,9 +19,9 @@ const RECORDED: u64 = 2000;
 /// The place of a target's cells.
 #[derive(Clone, Copy)]
 enum Cells<'a> {
-    /// In memory. They are blank.
+    /// Blank cells in memory.
     Memory,
-    /// In the file of this name.
+    /// The cells in the file of this name.
     File(&'a str),
 }
 

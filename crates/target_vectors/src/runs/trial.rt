@@ -27,7 +27,7 @@ quiet = [{ base = 0x40021000, size = 1024 }]";
 /// The address to which runs return.
 const BACK: u32 = 0x2000_0040;
 
-/// A target and its bench, whose open operation is the controller's.
+/// A target and its bench. The operation that is open on the bench is the controller's.
 #[derive(Drop)]
 pub struct Trial {
     target: Target,

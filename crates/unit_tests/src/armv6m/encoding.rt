@@ -59,7 +59,7 @@ fn each_long_branch_comes_back(rt: HostRuntime) {
     }
 }
 
-/// By GNU as 2.40, arm-none-eabi-as -mcpu=cortex-m0: mrs r11, primask; msr msp, r12; dsb; dmb; isb.
+/// The code by GNU as 2.40, arm-none-eabi-as -mcpu=cortex-m0: mrs r11, primask; msr msp, r12; dsb; dmb; isb.
 #[test]
 fn pairs_of_binutils(rt: HostRuntime) {
     for (instr, first, second) in [

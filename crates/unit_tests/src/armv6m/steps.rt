@@ -13,7 +13,7 @@ const BASE: u32 = 0x2000_0000;
 
 const HERE: u32 = BASE + 0x40;
 
-/// A core in which only the address is set.
+/// A core in which only the PC is set.
 fn core_at(pc: u32) -> Core {
     let mut core = Core {
         regs: [0; 16],

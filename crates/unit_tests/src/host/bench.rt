@@ -17,7 +17,7 @@ fn a_bench_holds_what_was_written(rt: HostRuntime) -> Result<(), Fail> {
     )
 }
 
-/// Whether each call that changes the cells or the job file goes through, and whether what is then read, and is in the files, is what was
+/// Whether each call that changes the cells or the job file goes through. Whether reads and the files themselves then have what was
 /// written.
 fn written_and_held(files: &mut Files) -> [bool; 15] {
     [

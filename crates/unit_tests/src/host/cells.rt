@@ -297,7 +297,7 @@ fn kept_and_dropped(cells: &mut WindowedDisk<HostDisk>, file: &Temporary) -> [bo
     ]
 }
 
-/// The system's `/dev/full` is read as zeros, and no write of it succeeds.
+/// The system's `/dev/full` is read as zeros, and no write to it succeeds.
 #[test]
 fn a_write_that_failed_is_not_seen(rt: HostRuntime) -> Result<(), Fail> {
     let seen = full(rt)?;
@@ -305,7 +305,7 @@ fn a_write_that_failed_is_not_seen(rt: HostRuntime) -> Result<(), Fail> {
     Ok(())
 }
 
-/// The answers of a write to it and of reads.
+/// The answers of a write to `/dev/full` and of reads.
 fn full(rt: HostRuntime) -> Result<[bool; 4], OutOfMemory> {
     let mut cells = windowed(rt, "/dev/full")?;
     Ok(unwritten(&mut cells))

@@ -115,7 +115,7 @@ fn a_job_file_that_another_program_reads_is_not_changed(rt: HostRuntime) -> Resu
     over_opened(&rt, rt, ("read_job", "its_cells"), job_stays, [true; 7])
 }
 
-/// Whether the job file is read and not changed while another program reads it, and isn't read any more once a change was refused.
+/// Whether the job file is read and not changed while another program reads it, and no call on it goes through after that refusal.
 fn job_stays(shared: &mut Shared) -> [bool; 7] {
     [
         reads(&shared.job),
@@ -133,7 +133,7 @@ fn cells_that_another_program_reads_are_not_changed(rt: HostRuntime) -> Result<(
     over_opened(&rt, rt, ("its_job", "read_cells"), cells_stay, [true; 7])
 }
 
-/// Whether the cells are read and not changed while another program reads them.
+/// Whether the cells are read and not changed while another program reads them, and no call on them goes through after that refusal.
 fn cells_stay(shared: &mut Shared) -> [bool; 7] {
     [
         reads(&shared.cells),
@@ -212,7 +212,7 @@ fn a_file_that_was_changed_is_kept_to_the_end(rt: HostRuntime) -> Result<(), Fai
     )
 }
 
-/// Whether no other program can read a file once the bench has opened it to change it, from then on.
+/// Whether other programs can't read a file once the bench has opened it for a change, and still can't later.
 fn own_and_still_own(shared: &mut Shared) -> [bool; 11] {
     [
         shared.files.open(0, 2),
@@ -367,8 +367,7 @@ fn beside_first(files: &Files) -> Result<([bool; 4], bool), Fail> {
     Ok((kept, changes(&mut first[0], files)))
 }
 
-/// Whether other benches are kept from the first one's job file, from its cells by a link, from its cells as a job file, and from its job
-/// file as cells.
+/// Whether other benches can't use the first one's job file, its cells by a link, its cells as a job file, and its job file as cells.
 fn kept_from(rt: HostRuntime, first: &[FileBench]) -> Result<[bool; 4], Fail> {
     Ok([
         beside(rt, first, ("first_job", "second_cells"), job_alone_is_kept)?,
@@ -398,7 +397,7 @@ fn changes(bench: &mut FileBench, files: &Files) -> bool {
     bench.file_write(0, b"x").is_ok() && bench.cells_drop().is_ok() && files.hold(b"xbc", &CELLS)
 }
 
-/// No process can open a program that runs for writing.
+/// No process can open for writing a program that is running.
 #[test]
 fn cells_that_cannot_be_written_are_read(rt: HostRuntime) -> Result<(), Fail> {
     let job = Temporary::new(rt, "program_job")?;

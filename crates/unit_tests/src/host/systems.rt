@@ -5,7 +5,7 @@ use std::fs;
 use std::os::unix::fs::MetadataExt;
 use std::test::Fail;
 
-/// Roots of file systems. The root of each of them has a number of its own there, mostly 1.
+/// Roots of file systems. Each root has a number on its file system, mostly 1.
 const ROOTS: [&str; 4] = ["/sys", "/dev/shm", "/dev/pts", "/dev"];
 
 /// The number of a file on its file system.

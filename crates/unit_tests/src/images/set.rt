@@ -160,7 +160,7 @@ fn check_text(alloc: Global, text: &[u8]) -> Result<(), ImageFault> {
     check(&map, 0, 0)
 }
 
-/// Asserts in which ranges three bytes lie with one at the last address, or which address lies outside them.
+/// Asserts that ranges hold three bytes and one at the last address, or which address is outside them.
 fn expect_ranges(rt: &impl Abort, map: &ByteMap) {
     let cases: [(&[(u32, u32)], Option<u32>); 5] = [
         (&[], Some(0x10)),

@@ -122,7 +122,7 @@ fn cut(block: &[u8; 512]) -> &[u8] {
     &block[..511]
 }
 
-/// A fault names the form of its file.
+/// A fault says whether UF2 or another form was read.
 #[test]
 fn faults_by_form(rt: HostRuntime) {
     let four = block(0, 0x0800_0000, 4, FOUR);

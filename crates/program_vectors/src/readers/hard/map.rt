@@ -1,9 +1,8 @@
-//! Lays records of 16 bytes into a map, and reads or merges images, in orders that are hard on a table of runs:
-//! `program_vectors map WORD.. RECORDS`. The words: an order (`rising`, `falling`, `outward`, by turns at both ends, or
-//! `shuffled`), `apart` (32 addresses a record, so that none touch), `merged` (each second record in a map of its own,
-//! and the two merged), `file` (the records as S-records, read as a file), `text` (the same with the first byte of each
-//! record alone). It prints the runs that come of it. `program_vectors map hostile` does some of each, shuffled records of a
-//! file among them, and what would be slow if a body moved more than it must.
+//! Puts records of 16 bytes into a map, and reads or merges images, in orders that are hard on a table of runs: `program_vectors map WORD..
+//! RECORDS`. A word is an order (`rising`, `falling`, `outward`, by turns at both ends, or `shuffled`) or a way. `apart` gives each record
+//! 32 addresses, so that none touch. `merged` puts each second record into a map of its own, and merges the two. `file` reads the records
+//! as a file of S-records, and `text` does so with the first byte of each record alone. It prints the runs of the map. `program_vectors map
+//! hostile` does some of each, shuffled records of a file among them, and what would be slow if a body moved more than it must.
 ghost use Rattle.std.specs.Prelude.{◌≤◌, length};
 
 use crate::print::Piece::{Count, Text};
@@ -22,7 +21,7 @@ const DIGITS: [u8; 16] = *b"0123456789ABCDEF";
 /// The least address.
 const LOW: u32 = 0x0800_0000;
 
-/// Where the long run begins that short ones are joined to, and how long it is: 32 MiB.
+/// The beginning of the long run that short ones are joined to, and its length: 32 MiB.
 const MIDDLE: u32 = 0x8000_0000;
 
 const LONG: usize = 1 << 25;
@@ -39,7 +38,7 @@ enum Order {
     Shuffled,
 }
 
-/// What is laid.
+/// What is put into the map.
 #[derive(Clone, Copy)]
 struct Plan {
     order: Order,
@@ -80,7 +79,7 @@ impl Plan {
     }
 }
 
-/// A number below `records` that looks like any other: where `records` is a power of two each comes once.
+/// A number below `records` that looks drawn. Where `records` is a power of two, each number comes once.
 fn shuffle(number: u32, records: u32) -> u32 {
     let mixed = (number ^ (number >> 9)).wrapping_mul(0x9E37_79B1) % records.max(1);
     (mixed ^ (mixed >> 7)).wrapping_mul(0x85EB_CA6B) % records.max(1)
@@ -136,7 +135,7 @@ fn push_record(text: &mut Vec<u8>, at: u32, bytes: &[u8]) -> Result<()>
     Ok(())
 }
 
-/// Adds S-records with the first bytes of each record of a plan, as many as are asked for.
+/// Adds an S-record with these bytes for each record of a plan, and an end record.
 fn push_records(text: &mut Vec<u8>, plan: &Plan, bytes: &[u8]) -> Result<()>
     requires { length bytes.now ≤ 250 }
 {
@@ -147,7 +146,7 @@ fn push_records(text: &mut Vec<u8>, plan: &Plan, bytes: &[u8]) -> Result<()>
     Ok(())
 }
 
-/// Puts the image of a text of such S-records in place of a map.
+/// Replaces a map by the image of such S-records.
 fn read_text(alloc: Global, map: &mut ByteMap, plan: &Plan, bytes: &[u8]) -> Result<()>
     requires { length bytes.now ≤ 250 }
 {
@@ -173,7 +172,7 @@ fn lay_long(alloc: Global, map: &mut ByteMap) -> Result<()> {
     Ok(())
 }
 
-/// Lays a long run, with a short one joined to it again and again, before it and behind it by turns.
+/// Puts a long run into a map, and joins a short one to it again and again, before it and after it by turns.
 fn bridge(alloc: Global, map: &mut ByteMap, count: u32) -> Result<()> {
     lay_long(alloc, map)?;
     for number in 0..count.min(MOST) {
@@ -198,7 +197,7 @@ enum Way {
     Bridge,
 }
 
-/// Lays into an empty map what comes of a plan.
+/// Puts the records of a plan into an empty map.
 fn lay(alloc: Global, map: &mut ByteMap, way: Way, plan: &Plan) -> Result<()> {
     match way {
         Way::Laid => lay_records(map, plan, None),
@@ -245,7 +244,7 @@ fn try_apart(rt: &HostRuntime, order: Order) -> Result<()> {
     try_plan(rt, Way::Text, &plan)
 }
 
-/// Prints what comes of so many shuffled records, or of so many pieces.
+/// Prints the map that comes of `records` shuffled records, or of this number of pieces.
 fn try_close(rt: &HostRuntime, way: Way, records: u32) -> Result<()> {
     let plan = Plan {
         order: Order::Shuffled,

@@ -8,7 +8,7 @@ const NAME_LEN: u32 = 44;
 /// The length of a long string.
 const LONG: u32 = 1 << 20;
 
-/// The blocks of which a colliding name begins with one each, and their bytes.
+/// The number of blocks with which a colliding name begins, and the length of a block.
 const BLOCKS: usize = 5;
 
 const BLOCK_LEN: usize = 8;
@@ -16,17 +16,17 @@ const BLOCK_LEN: usize = 8;
 /// The bytes with which a colliding name ends.
 const TAIL_LEN: usize = 4;
 
-/// What the sections are called.
+/// The kind of names that the sections have.
 #[derive(Clone, Copy)]
 pub enum Names {
-    /// By 44 random bytes each.
+    /// Names of 44 random bytes each.
     Random,
-    /// By 44 bytes each, which std's `FoldHasher` takes to one place of a map: five blocks of eight bytes, each one of a
-    /// pair that leaves the hash in one state, and a tail of four. A table has the pairs, and then the tails.
+    /// Names of 44 bytes each, which std's `FoldHasher` takes to one place of a map. A name has five blocks of eight bytes and a tail of
+    /// four. Each block is one of a pair that leaves the hash in the same state. A table has the pairs, and then the tails.
     Colliding,
-    /// All by one string of a mebibyte.
+    /// One string of a mebibyte for all sections.
     One,
-    /// By strings that begin at each byte of a mebibyte and end with it.
+    /// Strings that begin at each byte of a mebibyte and end with it.
     Overlapping,
 }
 
@@ -39,7 +39,7 @@ pub struct Table {
 }
 
 impl Names {
-    /// The names that this word stands for.
+    /// The names that a word asks for.
     pub fn named(word: &str) -> Option<Names> {
         match word {
             "random" => Some(Names::Random),
@@ -50,7 +50,7 @@ impl Names {
         }
     }
 
-    /// A table with names for so many sections.
+    /// A table with names for `sections` sections.
     pub fn table(
         self,
         alloc: Global,
@@ -100,7 +100,7 @@ fn piece(table: &[u8], start: usize, len: usize) -> &[u8] {
     table.get(start..).unwrap_or(&[]).get(..len).unwrap_or(&[])
 }
 
-/// The table of names of one length, of which the last is sought.
+/// The table of names of one length. The last name is the one that is sought.
 fn with_starts(alloc: Global, strings: Vec<u8>, sections: u32) -> Result<Table, AllocError> {
     let mut starts = Vec::new(alloc);
     for number in 0..sections.min(0xFFFF) {
@@ -117,7 +117,7 @@ fn with_starts(alloc: Global, strings: Vec<u8>, sections: u32) -> Result<Table, 
     })
 }
 
-/// The table of one long string, of which section `k` has what begins at byte `k * step`. Another name is sought.
+/// The table of one long string. The name of section `k` begins at byte `k * step`. Another name is sought.
 fn long(alloc: Global, sections: u32, step: u32) -> Result<Table, AllocError> {
     let mut strings = Vec::new(alloc);
     for _byte in 0..LONG {

@@ -1,5 +1,5 @@
-//! Reads an ELF file of 65,279 sections and looks for one by its name, as often as it is told: `program_vectors elf NAMES TIMES`, or
-//! `program_vectors elf colliding TIMES TABLE`. It prints the place of the section in the file's table.
+//! Reads an ELF file of 65,279 sections and looks for one by its name, TIMES times: `program_vectors elf NAMES TIMES`, or `program_vectors
+//! elf colliding TIMES TABLE`. It prints the place of the section in the file's table.
 
 use crate::print::Piece::{Number, Text};
 use crate::print::put;
@@ -23,7 +23,7 @@ pub const SECTION_LEN: u32 = 40;
 /// An ELF header with its magic bytes, class, data, version, type and machine.
 const BEGIN: [u8; 20] = *b"\x7FELF\x01\x01\x01\0\0\0\0\0\0\0\0\0\x01\0\x28\0";
 
-/// The words of a section header or of a part of one.
+/// Appends the words of a section header or of a part of one.
 pub fn push_words(file: &mut Vec<u8>, words: &[u32]) -> Result<(), AllocError> {
     for word in words {
         file.extend_from_slice(&word.to_le_bytes())?;
@@ -31,7 +31,7 @@ pub fn push_words(file: &mut Vec<u8>, words: &[u32]) -> Result<(), AllocError> {
     Ok(())
 }
 
-/// Appends the header of a file of so many sections, the one with the names second.
+/// Appends the header of a file of `sections` sections. The section with the names is the second.
 pub fn push_header(file: &mut Vec<u8>, sections: u32) -> Result<(), AllocError> {
     file.extend_from_slice(&BEGIN)?;
     push_words(
@@ -49,7 +49,7 @@ pub fn push_header(file: &mut Vec<u8>, sections: u32) -> Result<(), AllocError> 
     )
 }
 
-/// Appends the headers of the sections. Section 1 has the names, so many bytes, and each other says its own place as its offset.
+/// Appends the headers of the sections. Section 1 has the names, in `len` bytes. Each other section has its own place as its offset.
 fn push_sections(file: &mut Vec<u8>, starts: &[u32], len: u32) -> Result<(), AllocError> {
     let strings = HEADER_LEN + SECTION_LEN * SECTIONS;
     for (index, start) in (0..SECTIONS).zip(starts.iter()) {
@@ -71,7 +71,7 @@ fn push_file(file: &mut Vec<u8>, table: &Table) -> Result<(), AllocError> {
     file.extend_from_slice(&table.strings)
 }
 
-/// Reads the file so many times, and looks for the section each time: its place in the file's table.
+/// Reads the file `times` times, and looks for the section each time. Answers its place in the file's table.
 fn look(alloc: Global, file: &[u8], sought: &[u8], times: u32) -> Result<Option<u32>> {
     let mut found = None;
     for _time in 0..times {

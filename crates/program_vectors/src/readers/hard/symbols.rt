@@ -1,4 +1,4 @@
-//! Reads an ELF file of so many symbols, and looks for a symbol that isn't there as often as the reader of FLM files looks for one:
+//! Reads an ELF file of COUNT symbols, and looks for a symbol that isn't there as often as the reader of FLM files looks for one:
 //! `program_vectors symbols COUNT`. It prints how often it was found.
 
 use crate::print::Piece::{Count, Number, Text};
@@ -11,19 +11,19 @@ use std::alloc::{AllocError, Global};
 /// The most symbols here: 64 MiB.
 const MOST: u32 = 1 << 22;
 
-/// How many symbols an FLM file is asked for.
+/// How many symbols the reader of FLM files looks for.
 const SOUGHT: u32 = 7;
 
 /// The sections: none, the strings and the symbols.
 const SECTIONS: u32 = 3;
 
-/// The string table, whose one name differs from the one that is sought in its last byte.
+/// The string table. Its one name differs from the sought one in the last byte.
 const STRINGS: [u8; 8] = *b"\0UnIniT\0";
 
 /// The bytes of a symbol.
 const SYMBOL_LEN: u32 = 16;
 
-/// Appends the headers of a file with so many symbols, and its strings.
+/// Appends the headers of a file with `count` symbols, and its strings.
 fn push_headers(file: &mut Vec<u8>, count: u32) -> Result<(), AllocError> {
     let strings = HEADER_LEN + SECTION_LEN * SECTIONS;
     let len = STRINGS.len() as u32;
@@ -38,7 +38,7 @@ fn push_headers(file: &mut Vec<u8>, count: u32) -> Result<(), AllocError> {
     file.extend_from_slice(&STRINGS)
 }
 
-/// Appends a file with so many symbols of that name, of which each belongs to section 1.
+/// Appends a file with `count` symbols of that name. Each of them belongs to section 1.
 fn push_file(file: &mut Vec<u8>, count: u32) -> Result<(), AllocError> {
     push_headers(file, count)?;
     for _symbol in 0..count.min(MOST) {
@@ -47,7 +47,7 @@ fn push_file(file: &mut Vec<u8>, count: u32) -> Result<(), AllocError> {
     Ok(())
 }
 
-/// How often a symbol is found.
+/// How often the sought symbol is found.
 fn look_in(elf: &Elf) -> Result<u32, ElfFault> {
     let mut found = 0u32;
     for _time in 0..SOUGHT {
@@ -58,13 +58,13 @@ fn look_in(elf: &Elf) -> Result<u32, ElfFault> {
     Ok(found)
 }
 
-/// How often it is found in a file.
+/// How often the sought symbol is found in a file.
 fn look(alloc: Global, file: &[u8]) -> Result<u32, ElfFault> {
     let elf = Elf::read(alloc, file)?;
     look_in(&elf)
 }
 
-/// Prints how often it is found in a file.
+/// Prints how often the sought symbol is found in a file.
 fn put_found(rt: &HostRuntime, file: &[u8]) -> Result<()> {
     let found = look(rt.alloc(), file)?;
     let pieces = [
@@ -76,7 +76,7 @@ fn put_found(rt: &HostRuntime, file: &[u8]) -> Result<()> {
     Ok(())
 }
 
-/// Looks for a symbol among so many.
+/// Looks for a symbol among `count` symbols.
 fn look_among(rt: &HostRuntime, count: u32) -> Result<()> {
     let mut file = Vec::new(rt.alloc());
     push_file(&mut file, count)?;
