@@ -1,4 +1,4 @@
--- The table of instructions: its masks, its conditions, and that no halfword fits two rows that differ.
+-- The table of instructions: its masks, its conditions, and that no halfword fits two different rows.
 pub mod RowsLemmas
 pub mod Masks
 pub mod ConditionLemmas

@@ -36,10 +36,10 @@ under_ff87 half h =
     ap (λ (x : ℕ). bit_and x 0xFF87) split ∙ and_block 7 (half / 128) 0x1FF (half % 128) 7 (omega arith) (omega arith) ∙
     ap (λ (x : ℕ). x * 128 + bit_and (half % 128) 7) high ∙ ap (λ (x : ℕ). half / 128 * 128 + x) low
 
--- what the masks of the rows and of the pair rows need, with the tests of numbers
+-- the lemmas on the masks of all rows and pair rows, and on tests of numbers
 pub ruleset masks = (nat_tests, under_ff87, under_f000, under_f800, under_fc00, under_fe00, under_ff00, under_ff80, under_ffc0, under_ffff)
 
--- a mask that leaves out bit 13, and the bits below bit 12
+-- the bits under a mask without bit 13 and without the bits below bit 12
 pub under_d000 : (half : ℕ) → half < 2 ^ 16 → bit_and half 0xD000 ≡ half / 16384 * 16384 + half / 4096 % 2 * 4096
 under_d000 half h =
     let split : half ≡ half / 16384 * 2 ^ 14 + half % 16384 = omega arith in

@@ -7,7 +7,7 @@ use Rattle.std.specs.Int.Bits.{and_comm, or_add_and, or_lt, and_le_l}
 use Rattle.armv6m_decode.specs.declared.instr.Instr.{Instr}
 use Rattle.armv6m_decode.specs.Rows.{Row, fits, first_fit, AtMostOneFits, PairRow, fits_pair, AtMostOneFitsPair}
 
--- a halfword that a row fits lies from the value to the value with all other bits set
+-- a halfword that fits a row is at least the row's value, and at most that value with all other bits set
 pub fits_range : (half mask value : ℕ) → half < 2 ^ 16 → mask < 2 ^ 16 → bit_and half mask ≡ value → (value ≤ half) × (half + mask ≤ value + 65535)
 fits_range half mask value h m e =
     let a : bit_and half mask ≤ half = and_le_l half mask in
@@ -15,16 +15,16 @@ fits_range half mask value h m e =
     let c : bit_or half mask < 2 ^ 16 = or_lt 16 half mask h m in
     (omega arith, omega arith)
 
--- the row fits no halfword of the range
+-- whether a row fits no halfword of a range
 abbrev pub outside : ℕ → ℕ → Row → Bool
 outside low high r = ltb high r.value || ltb (r.value + 65535) (low + r.mask)
 
--- the rows that may fit a halfword of the range
+-- the rows that may fit a halfword of a range
 abbrev pub near : ℕ → ℕ → List Row → List Row
 near low high [] = []
 near low high (r ∷ rs) = cond (outside low high r) (near low high rs) (r ∷ near low high rs)
 
--- each mask has 16 bits at most
+-- each mask has at most 16 bits
 abbrev pub masks_fit : List Row → Bool
 masks_fit [] = true
 masks_fit (r ∷ rs) = ltb r.mask 65536 && masks_fit rs
@@ -41,7 +41,7 @@ not_true : (b : Bool) → (b ≡ true → ⊥) → b ≡ false
 not_true true n = absurd (n refl)
 not_true false n = refl
 
--- a row that is outside the range does not fit
+-- a row that is outside a range fits no halfword of it
 outside_unfit : (low high half value mask : ℕ) → low ≤ half → half ≤ high → half < 2 ^ 16 → mask < 2 ^ 16 →
     (ltb high value || ltb (value + 65535) (low + mask)) ≡ true → eqb (bit_and half mask) value ≡ true → ⊥
 outside_unfit low high half value mask l h w m out fit =
@@ -70,16 +70,16 @@ narrow low high (r ∷ rs) half m w l h =
 
 -- ---- no two rows fit one halfword
 
--- the two values differ on a bit of both masks
+-- whether the values of two rows differ on a bit of both masks
 abbrev pub apart : Row → Row → Bool
 apart r s = not (eqb (bit_and r.value s.mask) (bit_and s.value r.mask))
 
--- the row is apart from each of the list
+-- whether a row is apart from each row of a list
 abbrev pub apart_from : Row → List Row → Bool
 apart_from r [] = true
 apart_from r (s ∷ ss) = apart r s && apart_from r ss
 
--- each two rows of the list are apart
+-- whether any two rows of a list are apart
 abbrev pub all_apart : List Row → Bool
 all_apart [] = true
 all_apart (r ∷ rs) = apart_from r rs && all_apart rs
@@ -116,7 +116,7 @@ one_fits (t ∷ ts) a (suc i) zero half r s e d f g =
     absurd (first_only t ts half (both _ _ a).0 i r e (ap (λ (x : Row). fits x half) same ∙ g) f)
 one_fits (t ∷ ts) a (suc i) (suc j) half r s e d f g = ap (λ (k : ℕ). suc k) (one_fits ts (both _ _ a).1 i j half r s e d f g)
 
--- ---- the same for pairs
+-- ---- rows of pairs of halfwords
 
 abbrev pub pair_apart : PairRow → PairRow → Bool
 pair_apart r s = not (eqb (bit_and r.value s.mask) (bit_and s.value r.mask)) || not

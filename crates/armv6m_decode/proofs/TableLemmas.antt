@@ -24,7 +24,7 @@ row_masks_fit : masks_fit rows ≡ true
 unfolding rows
 row_masks_fit = refl
 
--- of a halfword in a range only the rows near the range matter
+-- for a halfword in a range only the rows near the range matter
 row_near : (low high half : ℕ) → half < 2 ^ 16 → low ≤ half → half ≤ high → first_fit rows half ≡ first_fit (near low high rows) half
 row_near low high half within above below = narrow low high rows half row_masks_fit within above below
 

@@ -36,7 +36,7 @@ pub enum Condition {
 }
 
 impl Condition {
-    /// All of them, in the order of their codes.
+    /// All conditions, in the order of their codes.
     pub const ALL: [Condition; 14] = [
         Condition::Equal,
         Condition::NotEqual,
@@ -77,7 +77,7 @@ impl Condition {
         }
     }
 
-    /// The condition with the code.
+    /// The condition with this code.
     #[tactic(auto, unfolding(crate::specs::Conditions::condition_of))]
     pub fn with_code(code: u8) -> Condition
         requires { code < 14 }

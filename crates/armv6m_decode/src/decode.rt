@@ -11,7 +11,7 @@ use crate::instr::Decoded;
 use crate::memory::{by_register, bytes, halfwords, literal, on_stack, words};
 use crate::miscellaneous::{addresses, miscellaneous};
 
-/// No halfword fits two rows, and one that begins a pair fits none.
+/// No halfword fits two rows, and a halfword that begins a pair fits none.
 pub fn one_row()
     ensures one { OneRowForEach }
     ensures pairs { NoRowBeginsPair }
@@ -22,8 +22,8 @@ pub fn one_pair_row()
     ensures { OneRowForEachPair }
 {}
 
-/// The instruction of the row that the halfword fits, with the row's fields. It is `NeedsSecond` exactly where the top five
-/// bits are 11101, 11110 or 11111, and `Undefined` exactly where no row fits.
+/// The instruction of the row that the halfword fits, with the row's fields. It is `NeedsSecond` exactly if the top five bits are 11101,
+/// 11110 or 11111, and `Undefined` exactly if no row fits.
 #[tactic(auto, using(crate::proofs::TableLemmas::begins_pair))]
 #[inline(always)]
 pub fn decode16(half: u16) -> Decoded
@@ -49,7 +49,7 @@ pub fn decode16(half: u16) -> Decoded
     }
 }
 
-/// 4000 to 4FFF.
+/// The halfwords 4000 to 4FFF.
 fn registers_or_literal(half: u16) -> Decoded
     requires { half / 4096 ≡ 4 }
     ensures { result ≡ decoded half }

@@ -1,8 +1,8 @@
 //! The instructions of Armv6-M, one variant for each row of the table of encodings.
 //!
-//! The fields are those of the encoding. `d`, `n`, `m` and `t` are registers, 0 to 15: the destination, the first and the
-//! second operand, and the register that is loaded or stored. An `immediate` is the unsigned number as it stands in the
-//! halfword, neither scaled nor extended. Bit r of a `list` stands for the register r.
+//! The fields are those of the encoding. `d`, `n`, `m` and `t` are registers, 0 to 15: the destination, the first and the second operand,
+//! and the register that is loaded or stored. An `immediate` is the unsigned number in the halfword, neither scaled nor extended. Bit r of
+//! a `list` stands for register r.
 
 use crate::Condition;
 
@@ -11,9 +11,9 @@ use crate::Condition;
 pub enum Alu {
     /// `LSLS d, m, #immediate`
     LslsImmediate { d: u8, m: u8, immediate: u8 },
-    /// `LSRS d, m, #immediate`, where the immediate 0 stands for 32
+    /// `LSRS d, m, #immediate`, where the immediate 0 means 32
     LsrsImmediate { d: u8, m: u8, immediate: u8 },
-    /// `ASRS d, m, #immediate`, where the immediate 0 stands for 32
+    /// `ASRS d, m, #immediate`, where the immediate 0 means 32
     AsrsImmediate { d: u8, m: u8, immediate: u8 },
     /// `ADDS d, n, m`
     AddsRegister { d: u8, n: u8, m: u8 },
@@ -138,7 +138,7 @@ pub enum Branch {
     Bl { immediate: u32 },
 }
 
-/// All others: addresses, extensions, byte orders, hints, barriers and special registers.
+/// All other instructions: addresses, extensions, byte orders, hints, barriers and special registers.
 #[derive(Clone, Copy)]
 pub enum Other {
     /// `ADR d, label`, the aligned PC plus 4 times the immediate
@@ -205,12 +205,12 @@ pub enum Instr {
     Other(Other),
 }
 
-/// What a halfword stands for.
+/// What a halfword means.
 #[derive(Clone, Copy)]
 pub enum Decoded {
-    /// The instruction whose row the halfword fits.
+    /// The instruction of the row that the halfword fits.
     Op(Instr),
-    /// The first halfword of an instruction of two.
+    /// The first halfword of an instruction of two halfwords.
     NeedsSecond,
     /// No instruction.
     Undefined,

@@ -1,5 +1,5 @@
-//! The Armv6-M instructions: the table of their encodings, in `specs/Table.antt`, the decoder that is proved to be that table,
-//! and the addresses that instructions name by their distance from the PC. No call takes memory.
+//! The Armv6-M instructions: the table of their encodings, in `specs/Table.antt`; the decoder, which is proved to agree with that table;
+//! and the addresses that instructions give by their distance from the PC. No call takes memory.
 #![tactic(auto)]
 
 mod branches;

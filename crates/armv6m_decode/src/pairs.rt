@@ -5,7 +5,7 @@ ghost use Rattle.armv6m_decode.specs.Table.{decoded_pair, branch_offset};
 
 use crate::instr::{Branch, Instr, Other};
 
-/// The instruction of the row that the pair fits, with the row's fields, and `None` exactly where no row fits.
+/// The instruction of the row that the pair fits, with the row's fields, or `None` exactly if no row fits.
 #[tactic(auto, using(crate::proofs::Masks::pair_masks), unfolding(crate::specs::Table::pair_rows, crate::specs::Table::decoded_pair))]
 #[inline(always)]
 pub fn decode32(first: u16, second: u16) -> Option<Instr>
@@ -37,7 +37,7 @@ pub fn decode32(first: u16, second: u16) -> Option<Instr>
     }
 }
 
-/// The bits S:I1:I2:imm10:imm11 of BL. I1 and I2 are 1 where J1 and J2 equal S.
+/// The bits S:I1:I2:imm10:imm11 of BL. I1 is 1 if J1 equals S, and I2 is 1 if J2 equals S.
 #[inline(always)]
 fn offset_bits(first: u16, second: u16) -> u32
     ensures { result ≡ branch_offset first second }

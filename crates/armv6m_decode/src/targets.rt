@@ -1,11 +1,11 @@
-//! The addresses that instructions name by their distance from the PC.
+//! The addresses that instructions give by their distance from the PC.
 
 ghost use Rattle.std.specs.Prelude.{◌≡◌, ◌%◌, ◌^◌};
 ghost use Rattle.armv6m_decode.specs.Targets.{pc_read, literal_target, signed_offset, branch_target};
 
 use armv6m_alu::sign_extend;
 
-/// The PC as the instruction at an address reads it.
+/// The PC as the instruction at this address reads it.
 #[inline(always)]
 pub fn pc_at(at: u32) -> u32
     ensures { result ≡ pc_read at }
@@ -21,7 +21,7 @@ pub fn literal(at: u32, immediate: u8) -> u32
     (pc_at(at) / 4 * 4).wrapping_add(4 * u32::from(immediate))
 }
 
-/// How far `B` with a condition goes from the PC: twice its immediate, read as signed.
+/// The distance of `B` with a condition from the PC: twice its immediate, read as signed.
 #[inline(always)]
 #[tactic(auto, using(std::proofs::lemmas::Bool::Decides::nat_tests, std::proofs::lemmas::Int::ints))]
 fn short_way(immediate: u8) -> u32
@@ -39,7 +39,7 @@ pub fn short(at: u32, immediate: u8) -> u32
     pc_at(at).wrapping_add(short_way(immediate))
 }
 
-/// How far `B` goes.
+/// The distance of `B` from the PC.
 #[inline(always)]
 #[tactic(auto, using(std::proofs::lemmas::Bool::Decides::nat_tests))]
 fn near_way(immediate: u16) -> u32

@@ -15,7 +15,7 @@ pub enum Encoding {
     Pair { first: u16, second: u16 },
 }
 
-/// Whether each field of the instruction fits the bits that its row has for it. Those of a decoded instruction do.
+/// Whether each field of the instruction fits the bits that its row has for it. The fields of a decoded instruction do.
 pub fn has_encoding(instr: &Instr) -> bool
     ensures { result ≡ fields_fit instr.now }
 {
@@ -28,7 +28,7 @@ pub fn has_encoding(instr: &Instr) -> bool
     }
 }
 
-/// The code of the instruction: what the decoder reads as just this instruction.
+/// The code of the instruction: what the decoder reads as exactly this instruction.
 pub fn encode(instr: &Instr) -> Encoding
     requires { IsTrue (fields_fit instr.now) }
     ensures { IsEncodedAs instr.now result }

@@ -6,7 +6,7 @@ ghost use Rattle.armv6m_encode.specs.Encoding.{IsEncodedAs};
 use crate::code::Encoding;
 use armv6m_decode::{Branch, Instr, Other};
 
-/// BL T1. J1 and J2 are 1 where I1 and I2 equal S.
+/// BL T1. J1 is 1 if I1 equals S, and J2 is 1 if I2 equals S.
 #[tactic(auto, using(armv6m_decode::proofs::Masks::pair_masks, armv6m_decode::proofs::TableLemmas::begins_pair), unfolding(armv6m_decode::specs::Table::pair_rows, armv6m_decode::specs::Table::decoded_pair))]
 pub(crate) fn bl(immediate: u32) -> Encoding
     requires { immediate < 2 ^ 24 }

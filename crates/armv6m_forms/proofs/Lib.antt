@@ -1,4 +1,4 @@
--- The rows that a form names, the texts of forms and the rooms they need.
+-- The rows that a form names, the texts of forms and the room that they need.
 pub mod AimLemmas
 pub mod ReadLemmas
 pub mod RoomLemmas

@@ -1,4 +1,4 @@
--- Each row stands for the form that names it, where its fields fit.
+-- Each row stands for the form that names it, if its fields fit.
 use Rattle.std.proofs.Common.{refl, ap, ◌∙◌, sym, arith, inl, inr, subst}
 use Rattle.std.proofs.lemmas.Bool.Decides.{nat_tests}
 use Rattle.std.specs.Prelude.{◌≡◌, ◌⊎◌, ℕ, ◌+◌, ◌*◌, ◌/◌, ◌%◌, ◌^◌, ◌&&◌, Bool, true, false, not, IsTrue, nat_eq, nat_lt, if◌then◌else◌, Option, Some, None}
@@ -32,7 +32,7 @@ unfit a b e f t = let same : fields_fit a ≡ fields_fit b = ap (λ x. fields_fi
 pub no_row : (form : Form) (at : ℕ) → None ≡ row_of form at → HasNoInstruction at form
 no_row form at none i s = let e = row_is i at form s in absurd (cc)
 
--- whether the fields fit decides
+-- if the fields of a form's row don't fit, no instruction stands for the form
 pub not_fit : (form : Form) (i : Instr) (at : ℕ) → Some i ≡ row_of form at → fields_fit i ≡ false → HasNoInstruction at form
 not_fit form i at row is j s = unfit i j (some_is i j (row ∙ row_is j at form s)) is s.fields
 
@@ -48,7 +48,7 @@ reading form i result row is h = subst (λ (r : Option Instr). IsReadAs form r) 
 pub unread : (form : Form) (result : Option Instr) → ((at : ℕ) → None ≡ row_of form at) → result ≡ None → IsReadAs form result
 unread form result row is = subst (λ (r : Option Instr). IsReadAs form r) (sym is) (λ at. no_row form at (row at))
 
--- ---- by tests
+-- ---- what tests of numbers say
 
 is_zero : (a : ℕ) → nat_eq a 0 ≡ true → a ≡ 0
 is_zero a h = grind (arith, nat_tests)
@@ -129,7 +129,7 @@ lsls_written : (d m a n at : ℕ) → n ≡ a → (form_of (instr.Alu (LslsImmed
 unfolding form_of
 lsls_written d m a n at e = lsls_by (nat_eq a 0) d m a n refl e
 
--- ---- by shape
+-- ---- rows by the shape of their operands
 
 stands_none : (mnemonic : Mnemonic) → IfSome (row_none mnemonic) (λ i. Stands i (Plain mnemonic operands.None))
 unfolding form_of
@@ -466,7 +466,7 @@ pub unread_to_special : (mnemonic : Mnemonic) (special n : ℕ) (result : Option
     IsReadAs (Plain mnemonic (operands.ToSpecial special n)) result
 unread_to_special mnemonic special n result row is = unread (Plain mnemonic (operands.ToSpecial special n)) result (λ at. row) is
 
--- ---- of operands that are known to have a shape
+-- ---- operands of a known shape
 pub as_written : (mnemonic : Mnemonic) (written other : Operands) (result : Option Instr) → written ≡ other
     → IsReadAs (Plain mnemonic other) result → IsReadAs (Plain mnemonic written) result
 as_written mnemonic written other result is h = subst (λ (o : Operands). IsReadAs (Plain mnemonic o) result) (sym is) h

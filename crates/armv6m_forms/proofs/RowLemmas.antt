@@ -30,16 +30,16 @@ use Rattle.armv6m_decode.specs.declared.condition.Condition.{Condition}
 use Rattle.armv6m_forms.specs.Form.{form_of, right_shift, with_register, is_made, IsReadToo, StandsFor, OneInstructionForEach}
 use Rattle.armv6m_forms.specs.Row.{scale_of, counted, halved}
 
--- what comes of a field, if there is one
+-- the instruction that is made from a field, if there is one
 abbrev pub with_field : (ℕ → Option Instr) → Option ℕ → Option Instr
 with_field f None = None
 with_field f (Some field) = f field
 
--- encoding T1 where both registers are low
+-- CMP of two registers: encoding T1 if both are low registers
 abbrev pub comparison : ℕ → ℕ → Instr
 comparison d m = if nat_lt d 8 && nat_lt m 8 then instr.Alu (CmpRegister d m) else instr.Alu (CmpHigh d m)
 
--- ---- by mnemonic and shape; a `field` is that of an immediate, or a list's low byte
+-- ---- rows by mnemonic and shape; a `field` is that of an immediate, or a list's low byte
 
 abbrev pub row_none : Mnemonic → Option Instr
 row_none mnemonic.Nop = Some (instr.Other Nop)
@@ -165,7 +165,7 @@ row_to_special _ special n = None
 
 -- ---- targets
 
--- how far a target is after a place, modulo 2^32
+-- the distance of a target from a place, modulo 2^32
 abbrev pub distance : ℕ → ℕ → ℕ
 distance from target = (target + (2 ^ 32 - from)) % 2 ^ 32
 
@@ -176,7 +176,7 @@ row_aimed BranchLink at target = with_field (λ i. Some (instr.Branch (Bl i))) (
 row_aimed (Load t) at target = with_field (λ i. Some (instr.Memory (LdrLiteral t i))) (counted 4 (distance (pc_read at / 4 * 4) target))
 row_aimed (Address d) at target = with_field (λ i. Some (instr.Other (Adr d i))) (counted 4 (distance (pc_read at / 4 * 4) target))
 
--- ---- of any form
+-- ---- the row of any form
 
 abbrev pub row_of : Form → ℕ → Option Instr
 row_of (Plain mnemonic operands.None) at = row_none mnemonic

@@ -12,7 +12,7 @@ use Rattle.armv6m_forms.specs.declared.form.Operands.{Operands}
 use Rattle.armv6m_forms.specs.declared.form.Operands.TheVariants.{None}
 use Rattle.armv6m_forms.specs.declared.form.Form.TheVariants.{Plain}
 
--- a number that no register has
+-- the text of a number that no register has
 pub numbered_register : (register : ℕ) → 16 ≤ register → register_text register ≡ codes "R" ++ decimal register
 unfolding register_text
 numbered_register register past = grind arith
@@ -23,7 +23,7 @@ abbrev pub is_none : List ℕ → Bool
 is_none [] = true
 is_none (register ∷ rest) = false
 
--- their names
+-- the names of the registers in a list below a number
 abbrev pub names_below : ℕ → ℕ → List ℕ
 names_below end list = join_by register_text comma_text (listed_below end list)
 
@@ -36,7 +36,7 @@ one_or_none : (there : Bool) (register list : ℕ) → is_bit_set list register 
 one_or_none true register list h = rw h refl
 one_or_none false register list h = rw h refl
 
--- one register more
+-- the registers below a number and one register more
 pub listed-more : (there : Bool) (register list : ℕ) → is_bit_set list register ≡ there
     → listed_below (register + 1) list ≡ listed_below register list ++ (if there then register ∷ [] else [])
 unfolding listed_below
@@ -49,18 +49,18 @@ is_none-more : (xs : List ℕ) (x : ℕ) → is_none (xs ++ x ∷ []) ≡ false
 is_none-more [] x = refl
 is_none-more (y ∷ ys) x = refl
 
--- the names of some registers and one more
+-- the names of some registers, with commas, and one name more
 join-more : (xs : List ℕ) (x : ℕ)
     → join_by register_text comma_text (xs ++ x ∷ []) ≡ join_by register_text comma_text xs ++ (if is_none xs then [] else comma_text) ++ register_text x
 join-more [] x = append-nil (register_text x)
 join-more (y ∷ ys) x = grind (arith, common_steps)
 
--- a register that is listed_below
+-- the names below a number and one more, which is in the list
 pub names_below-listed : (register list : ℕ) → is_bit_set list register ≡ true
     → names_below (register + 1) list ≡ names_below register list ++ (if is_none (listed_below register list) then [] else comma_text) ++ register_text register
 names_below-listed register list h = rw (listed-more true register list h) (join-more (listed_below register list) register)
 
--- no register is below the first
+-- a list has no register below register 0
 pub listed-first : (list : ℕ) → listed_below 0 list ≡ []
 unfolding listed_below
 listed-first list = refl
@@ -68,7 +68,7 @@ listed-first list = refl
 pub is_none-listed : (register list : ℕ) → is_bit_set list register ≡ true → is_none (listed_below (register + 1) list) ≡ false
 is_none-listed register list h = rw (listed-more true register list h) (is_none-more (listed_below register list) register)
 
--- a register that isn't
+-- the registers below a number and one more, which isn't in the list
 pub listed-absent : (register list : ℕ) → is_bit_set list register ≡ false → listed_below (register + 1) list ≡ listed_below register list
 listed-absent register list h = listed-more false register list h ∙ append-nil (listed_below register list)
 
@@ -95,7 +95,7 @@ names_have_room register list within short =
     let whole = rw all at grow in
     omega (arith, whole, short, in_braces (names_below 16 list))
 
--- a text that the names stand at the end of, and one register more
+-- a text that ends with these names is longer by one name with one register more
 pub text_more : (front line after : List ℕ) (first : Bool) (register list : ℕ) → is_bit_set list register ≡ true
     → line ≡ front ++ names_below register list → first ≡ is_none (listed_below register list)
     → after ≡ line ++ (if first then [] else comma_text) ++ register_text register

@@ -1,7 +1,7 @@
 //! The form of an instruction: what its statement says.
 //!
-//! A register is its number, 0 to 15. Immediates stand as the text has them: offsets in
-//! bytes, and a shift to the right by 1 to 32. Bit r of a `list` stands for the register r.
+//! A register is its number, 0 to 15. Immediates are as in the text: offsets in bytes, and a shift to the right by 1 to 32. Bit r of a
+//! `list` stands for register r.
 
 use crate::mnemonic::Mnemonic;
 use armv6m_decode::Condition;
@@ -41,7 +41,7 @@ pub enum Operands {
     ToSpecial { special: u8, n: u8 },
 }
 
-/// What an instruction with a target does with it.
+/// The mnemonic of an instruction with a target.
 #[derive(Clone, Copy, PartialEq, Eq, Debug)]
 pub enum Aim {
     /// `B target`

@@ -59,7 +59,7 @@ fn lsls_immediate(d: u8, m: u8, immediate: u8, at: u32) -> Form
     }
 }
 
-/// The immediate 0 stands for a shift to the right by 32.
+/// The immediate 0 means a shift to the right by 32.
 fn shift_right(mnemonic: Mnemonic, d: u8, m: u8, immediate: u8) -> Form
     ensures { result ≡ Form.Plain mnemonic (Operands.TwoImmediate d m (right_shift immediate)) }
 {
@@ -72,7 +72,7 @@ fn shift_right(mnemonic: Mnemonic, d: u8, m: u8, immediate: u8) -> Form
     )
 }
 
-/// The immediate of three bits stands as it is.
+/// The immediate of three bits is taken as it is.
 fn immediate_3(mnemonic: Mnemonic, d: u8, n: u8, immediate: u8) -> Form
     ensures { result ≡ Form.Plain mnemonic (Operands.TwoImmediate d n immediate) }
 {

@@ -11,9 +11,9 @@ use armv6m_decode::registers::SP;
 use armv6m_decode::targets::{far, literal, near, short};
 use armv6m_decode::{Branch, Instr, Many, Other};
 
-/// The form of the instruction at an address: its mnemonic and its operands (A6.7). A target is counted from the address plus
-/// 4, modulo 2^32. A branch's immediate is taken modulo 2 to the number of its bits, and any other field as it stands, also
-/// where it doesn't fit its row.
+/// The form of the instruction at an address: its mnemonic and its operands (A6.7). A target is counted from the address plus 4, modulo
+/// 2^32. A branch's immediate is taken modulo 2 to the number of its bits. Any other field is taken as it is, even if it doesn't fit its
+/// row.
 pub fn form_at(instr: &Instr, at: u32) -> Form
     ensures { result ≡ form_of instr.now at }
 {

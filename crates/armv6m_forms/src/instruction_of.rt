@@ -13,13 +13,13 @@ use crate::rows::{fitting, in_units};
 use armv6m_decode::targets::pc_at;
 use armv6m_decode::{Branch, Condition, Instr, Memory, Other};
 
-/// A form has one instruction at most.
+/// A form at an address has at most one instruction.
 pub fn one_instruction()
     ensures { OneInstructionForEach }
 {}
 
-/// The instruction that a mnemonic and operands without a target stand for (A6.7), and `None` exactly where there is none: where
-/// the mnemonic takes no such operands, or one doesn't fit the row's field.
+/// The instruction that a mnemonic and operands without a target mean (A6.7), or `None` if there is none: the mnemonic takes no such
+/// operands, or one of them doesn't fit the row's field.
 pub fn instruction(mnemonic: Mnemonic, operands: Operands) -> Option<Instr>
     ensures { MatchOption result ((at : ℕ) → HasNoInstruction at (Form.Plain mnemonic operands))
         (λ instr. (at : ℕ) → StandsFor instr at (Form.Plain mnemonic operands)) }
@@ -45,9 +45,8 @@ pub fn instruction(mnemonic: Mnemonic, operands: Operands) -> Option<Instr>
     }
 }
 
-/// The instruction that stands at an address for one with a target, and `None` exactly where there is none: where the target is
-/// out of reach, or not at a whole number of units from the PC. The distance is counted modulo 2^32, so that a target may lie
-/// across the address 0.
+/// The instruction at an address for a mnemonic with a target, or `None` if there is none: the target is out of reach, or not a whole
+/// number of units from the PC. The distance is counted modulo 2^32, so a target may be across address 0.
 pub fn reach(aim: Aim, at: u32, target: u32) -> Option<Instr>
     ensures { MatchOption result (HasNoInstruction at (Form.Aimed aim target)) (λ instr. StandsFor instr at (Form.Aimed aim target)) }
 {
@@ -60,8 +59,7 @@ pub fn reach(aim: Aim, at: u32, target: u32) -> Option<Instr>
     }
 }
 
-/// The field that, read as signed, counts the halfwords of a distance modulo 2^32. It is less than a span of bytes in either
-/// direction.
+/// A distance modulo 2^32 as a signed field that counts halfwords, if it is less than `span` bytes in either direction.
 fn halves(span: u32, distance: u32) -> Option<u32>
     requires positive { 0 < span }
     requires even { span % 2 ≡ 0 }
@@ -106,7 +104,7 @@ fn far(at: u32, target: u32) -> Option<Instr>
     fitting(Instr::Branch(Branch::Bl { immediate }))
 }
 
-/// The field of a literal's or an address's target, from the aligned PC.
+/// The field of a literal's or of ADR's target, counted from the aligned PC.
 fn words_ahead(at: u32, target: u32) -> Option<u8>
     ensures { result ≡ counted 4 ((target + (2 ^ 32 - pc_read at / 4 * 4)) % 2 ^ 32) }
 {

@@ -28,7 +28,7 @@ impl Line {
         }
     }
 
-    /// The bytes of the line, lent.
+    /// The bytes of the line as a slice.
     pub fn bytes(&self) -> &[u8]
         ensures text { result.now ≡ self.now }
         ensures fits { length result.now ≤ 64 }
@@ -36,14 +36,14 @@ impl Line {
         self.text.as_slice()
     }
 
-    /// Empties the line.
+    /// Makes the line empty.
     pub(crate) fn clear(&mut self)
         ensures { self.new ≡ [] }
     {
         self.text.clear();
     }
 
-    /// Puts a piece of text at the end.
+    /// Adds a piece of text at the end.
     pub(crate) fn put(&mut self, piece: &[u8])
         requires { length self.old + length piece.now ≤ 64 }
         ensures { self.new ≡ self.old ++ piece.now }

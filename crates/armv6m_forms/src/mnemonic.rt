@@ -1,4 +1,4 @@
-//! The mnemonics of instructions whose operands name no address.
+//! The mnemonics of instructions without an address among their operands.
 
 /// The mnemonic of an instruction without a target (A6.7).
 #[derive(Clone, Copy, PartialEq, Eq, Debug)]

@@ -1,4 +1,4 @@
-//! Forms by the shape of their operands. An `immediate` is the instruction's field, and `scale` the bytes that it counts.
+//! Forms by the shape of their operands. An `immediate` is the instruction's field, and `scale` how many bytes one unit of it is.
 
 ghost use Rattle.std.specs.Prelude.{◌≡◌, ◌*◌, ◌+◌, ◌≤◌, if◌then◌else◌};
 
@@ -84,7 +84,7 @@ pub(crate) fn aimed(aim: Aim, target: u32) -> Form
     Form::Aimed { aim, target }
 }
 
-/// The list with one more register's bit, where that is in it.
+/// A list with one more register's bit, if `there` is true.
 pub(crate) fn with_bit(there: bool, bit: u16, list: u8) -> u16
     requires { bit ≤ 0x8000 }
     ensures { result ≡ (if there then list + bit else list) }

@@ -1,4 +1,4 @@
-//! From a form without a target to its instruction: a function for each shape of operands.
+//! From a form without a target to its instruction, with one function for each shape of operands.
 
 ghost use Rattle.std.specs.Prelude.{◌≡◌, ◌<◌, ◌&&◌, nat_lt, Some, None, if◌then◌else◌};
 ghost use Rattle.armv6m_encode.specs.Encoding.{fields_fit};
@@ -10,7 +10,7 @@ use armv6m_decode::registers::SP;
 use armv6m_decode::{Alu, Branch, Instr, Many, Memory, Other};
 use armv6m_encode::has_encoding;
 
-/// The instruction, where each field fits its row.
+/// The instruction, if each field fits its row.
 pub(crate) fn fitting(instr: Instr) -> Option<Instr>
     ensures { result ≡ (if fields_fit instr then Some instr else None) }
 {
@@ -21,7 +21,7 @@ pub(crate) fn fitting(instr: Instr) -> Option<Instr>
     }
 }
 
-/// The field of eight bits that counts a number in units.
+/// A number as a field of eight bits that counts units, if it fits.
 pub(crate) fn in_units(unit: u32, number: u32) -> Option<u8>
     requires { 0 < unit }
     ensures { result ≡ counted unit number }

@@ -18,7 +18,7 @@ use armv6m_decode::{Instr, Many};
 use itoa::Buffer;
 use octets::hex_digits;
 
-/// Puts the name of a register.
+/// Adds the name of a register.
 fn write_register(line: &mut Line, register: u8)
     requires { length line.old ≤ 60 }
     ensures text { line.new ≡ line.old ++ register_text register }
@@ -32,7 +32,7 @@ fn write_register(line: &mut Line, register: u8)
     }
 }
 
-/// Puts a comma and the name of a register.
+/// Adds a comma and the name of a register.
 fn write_next(line: &mut Line, register: u8)
     requires { length line.old ≤ 58 }
     ensures text { line.new ≡ line.old ++ comma_text ++ register_text register }
@@ -42,7 +42,7 @@ fn write_next(line: &mut Line, register: u8)
     write_register(line, register);
 }
 
-/// Puts an immediate.
+/// Adds an immediate.
 #[tactic(auto, unfolding(crate::specs::Text::immediate_text))]
 fn write_immediate(line: &mut Line, immediate: u32)
     requires { length line.old ≤ 53 }
@@ -53,7 +53,7 @@ fn write_immediate(line: &mut Line, immediate: u32)
     line.put(Buffer::new().format(immediate).as_bytes());
 }
 
-/// Puts a comma and an immediate.
+/// Adds a comma and an immediate.
 fn write_next_immediate(line: &mut Line, immediate: u32)
     requires { length line.old ≤ 51 }
     ensures text { line.new ≡ line.old ++ comma_text ++ immediate_text immediate }
@@ -63,7 +63,7 @@ fn write_next_immediate(line: &mut Line, immediate: u32)
     write_immediate(line, immediate);
 }
 
-/// Puts a special register.
+/// Adds a special register.
 #[tactic(auto, unfolding(crate::specs::Text::special_text))]
 fn write_special(line: &mut Line, special: u8)
     requires { length line.old ≤ 53 }
@@ -78,7 +78,7 @@ fn write_special(line: &mut Line, special: u8)
     }
 }
 
-/// Puts the address of a target.
+/// Adds the address of a target.
 #[tactic(auto, unfolding(crate::specs::Text::target_text))]
 fn write_target(line: &mut Line, target: u32)
     requires { length line.old ≤ 14 }
@@ -88,7 +88,7 @@ fn write_target(line: &mut Line, target: u32)
     line.put(&hex_digits::<8>(target));
 }
 
-/// Puts `d, m`.
+/// Adds `d, m`.
 #[tactic(auto, unfolding(crate::specs::Text::operands_text))]
 fn write_two(line: &mut Line, d: u8, m: u8)
     requires { length line.old ≤ 6 }
@@ -98,7 +98,7 @@ fn write_two(line: &mut Line, d: u8, m: u8)
     write_next(line, m);
 }
 
-/// Puts `d, n, m`.
+/// Adds `d, n, m`.
 #[tactic(auto, unfolding(crate::specs::Text::operands_text))]
 fn write_three(line: &mut Line, d: u8, n: u8, m: u8)
     requires { length line.old ≤ 6 }
@@ -109,7 +109,7 @@ fn write_three(line: &mut Line, d: u8, n: u8, m: u8)
     write_next(line, m);
 }
 
-/// Puts `d, #immediate`.
+/// Adds `d, #immediate`.
 #[tactic(auto, unfolding(crate::specs::Text::operands_text))]
 fn write_one_immediate(line: &mut Line, d: u8, immediate: u32)
     requires { length line.old ≤ 6 }
@@ -119,7 +119,7 @@ fn write_one_immediate(line: &mut Line, d: u8, immediate: u32)
     write_next_immediate(line, immediate);
 }
 
-/// Puts `d, n, #immediate`.
+/// Adds `d, n, #immediate`.
 #[tactic(auto, unfolding(crate::specs::Text::operands_text))]
 fn write_two_immediate(line: &mut Line, d: u8, n: u8, immediate: u32)
     requires { length line.old ≤ 6 }
@@ -130,7 +130,7 @@ fn write_two_immediate(line: &mut Line, d: u8, n: u8, immediate: u32)
     write_next_immediate(line, immediate);
 }
 
-/// Puts `t, [n, m]`.
+/// Adds `t, [n, m]`.
 #[tactic(auto, unfolding(crate::specs::Text::operands_text))]
 fn write_by_register(line: &mut Line, t: u8, n: u8, m: u8)
     requires { length line.old ≤ 6 }
@@ -143,7 +143,7 @@ fn write_by_register(line: &mut Line, t: u8, n: u8, m: u8)
     line.put(b"]");
 }
 
-/// Puts `t, [n, #offset]`.
+/// Adds `t, [n, #offset]`.
 #[tactic(auto, unfolding(crate::specs::Text::operands_text))]
 fn write_by_offset(line: &mut Line, t: u8, n: u8, offset: u32)
     requires { length line.old ≤ 6 }
@@ -156,7 +156,7 @@ fn write_by_offset(line: &mut Line, t: u8, n: u8, offset: u32)
     line.put(b"]");
 }
 
-/// Puts `d, special`.
+/// Adds `d, special`.
 #[tactic(auto, unfolding(crate::specs::Text::operands_text))]
 fn write_from_special(line: &mut Line, d: u8, special: u8)
     requires { length line.old ≤ 6 }
@@ -167,7 +167,7 @@ fn write_from_special(line: &mut Line, d: u8, special: u8)
     write_special(line, special);
 }
 
-/// Puts `special, n`.
+/// Adds `special, n`.
 #[tactic(auto, unfolding(crate::specs::Text::operands_text))]
 fn write_to_special(line: &mut Line, special: u8, n: u8)
     requires { length line.old ≤ 6 }
@@ -177,7 +177,7 @@ fn write_to_special(line: &mut Line, special: u8, n: u8)
     write_next(line, n);
 }
 
-/// Puts the registers of a list in braces, rising.
+/// Adds the registers of a list in braces, in rising order.
 #[tactic(auto, unfolding(crate::specs::Text::list_text))]
 fn write_list(line: &mut Line, list: u16)
     requires room { length line.old ≤ 13 }
@@ -195,7 +195,7 @@ fn write_list(line: &mut Line, list: u16)
     line.put(b"}");
 }
 
-/// Puts a register of a list, with a comma before each but the first.
+/// Adds a register of a list, with a comma before each but the first.
 fn write_item(line: &mut Line, register: u8, first: bool)
     requires { length line.old ≤ 58 }
     ensures text { line.new ≡ line.old ++ (if first then [] else comma_text) ++ register_text register }
@@ -207,7 +207,7 @@ fn write_item(line: &mut Line, register: u8, first: bool)
     }
 }
 
-/// Puts `n, {list}`.
+/// Adds `n, {list}`.
 #[tactic(auto, unfolding(crate::specs::Text::operands_text))]
 fn write_base_list(line: &mut Line, n: u8, list: u16)
     requires room { length line.old ≤ 6 }
@@ -219,7 +219,7 @@ fn write_base_list(line: &mut Line, n: u8, list: u16)
     write_list(line, list);
 }
 
-/// Puts `n!, {list}`.
+/// Adds `n!, {list}`.
 #[tactic(auto, unfolding(crate::specs::Text::operands_text))]
 fn write_updated_list(line: &mut Line, n: u8, list: u16)
     requires room { length line.old ≤ 6 }
@@ -231,7 +231,7 @@ fn write_updated_list(line: &mut Line, n: u8, list: u16)
     write_list(line, list);
 }
 
-/// Puts operands.
+/// Adds operands.
 #[tactic(auto, unfolding(crate::specs::Text::operands_text))]
 fn write_operands(line: &mut Line, operands: &Operands)
     requires room { length line.old ≤ 6 }
@@ -257,7 +257,7 @@ fn write_operands(line: &mut Line, operands: &Operands)
     }
 }
 
-/// Puts an instruction without a target.
+/// Adds an instruction without a target.
 fn write_plain(line: &mut Line, mnemonic: Mnemonic, operands: &Operands)
     requires empty { line.old ≡ [] }
     requires short { HasShortList operands.now }
@@ -273,7 +273,7 @@ fn write_plain(line: &mut Line, mnemonic: Mnemonic, operands: &Operands)
     }
 }
 
-/// Puts the mnemonic of an instruction with a target, and the register before the target.
+/// Adds the mnemonic of an instruction with a target, and the register before the target.
 #[tactic(auto, unfolding(crate::specs::Text::aim_text, crate::specs::Text::aim_register))]
 fn write_aim(line: &mut Line, aim: Aim)
     requires { line.old ≡ [] }
@@ -301,7 +301,7 @@ fn write_aim(line: &mut Line, aim: Aim)
     }
 }
 
-/// Writes the text of a form, and nothing else.
+/// Writes the text of a form over what the line held.
 #[tactic(auto, unfolding(crate::specs::Text::form_text))]
 fn write_form(line: &mut Line, form: &Form)
     requires { HasRoom form.now }
@@ -317,17 +317,17 @@ fn write_form(line: &mut Line, form: &Form)
     }
 }
 
-/// Writes the statement of the instruction that stands at an address, in place of what the line held: the mnemonic and the
-/// operands (A6.7), with targets as addresses. It is so too for fields that no encoding has.
+/// Writes the statement of an instruction at an address over what the line held: the mnemonic and the operands (A6.7), with targets as
+/// addresses. It also writes fields that no encoding has.
 pub fn disassemble(instr: &Instr, at: u32, line: &mut Line)
     ensures { line.new ≡ form_text (form_of instr.now at) }
 {
-    // A list has eight registers, and LR or PC, at most: so the line has room.
+    // A list has at most eight low registers, and LR or PC, so the line has room.
     let _list = low_list(instr);
     write_form(line, &form_at(instr, at));
 }
 
-/// The low registers of an instruction's list; none where it has no list.
+/// The low registers in the list of an instruction, or none if it has no list.
 fn low_list(instr: &Instr) -> u8
     ensures { result ≡ low_list instr.now }
 {

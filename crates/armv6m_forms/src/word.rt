@@ -1,4 +1,4 @@
-//! The words of statements: mnemonics, registers and special registers, written and read.
+//! The words of statements, written and read: mnemonics, registers and special registers.
 ghost use Rattle.std.specs.Prelude.{◌≡◌, ◌≢◌, ◌<◌, ◌≤◌, ◌++◌, ℕ, length, codes, IfSome, IfNone};
 ghost use Rattle.armv6m_forms.specs.Text.{text_of, condition_text, aim_text, register_text, special_text, IsBranch, IsSpecial};
 ghost use Rattle.armv6m_decode.specs.declared.condition.Condition.{Condition};
@@ -93,7 +93,7 @@ impl Mnemonic {
     }
 }
 
-/// The mnemonic that a word is, and none where it is no mnemonic.
+/// Reads a word as a mnemonic.
 pub fn read_mnemonic(word: &[u8]) -> Option<Mnemonic>
     ensures some { IfSome result (λ mnemonic. text_of mnemonic ≡ word.now) }
     ensures none { IfNone result ((mnemonic : Mnemonic) → text_of mnemonic ≢ word.now) }
@@ -106,7 +106,7 @@ pub fn read_mnemonic(word: &[u8]) -> Option<Mnemonic>
     None
 }
 
-/// The aim whose mnemonic stands alone before its target: `B`, `B` with a condition, `BL`; none for any other word.
+/// Reads a word as a mnemonic that has only a target: `B`, `B` with a condition, or `BL`.
 #[tactic(auto, unfolding(crate::specs::Text::aim_text))]
 pub fn read_branch(word: &[u8]) -> Option<Aim>
     ensures some { IfSome result (λ aim. aim_text aim ≡ word.now) }
@@ -123,7 +123,7 @@ pub fn read_branch(word: &[u8]) -> Option<Aim>
     }
 }
 
-/// The condition of a conditional branch's mnemonic.
+/// Reads the condition of a conditional branch's mnemonic.
 fn read_conditional(word: &[u8]) -> Option<Condition>
     ensures some { IfSome result (λ condition. codes "B" ++ condition_text condition ≡ word.now) }
     ensures none { IfNone result ((condition : Condition) → codes "B" ++ condition_text condition ≢ word.now) }
@@ -158,7 +158,7 @@ pub(crate) fn condition_text(condition: Condition) -> &'static [u8]
     }
 }
 
-/// The condition whose suffix a word is.
+/// The condition with this suffix.
 fn read_condition(word: &[u8]) -> Option<Condition>
     ensures some { IfSome result (λ condition. condition_text condition ≡ word.now) }
     ensures none { IfNone result ((condition : Condition) → condition_text condition ≢ word.now) }
@@ -198,7 +198,7 @@ pub(crate) fn register_name(register: u8) -> &'static [u8]
     }
 }
 
-/// The number of a register's name, and none where a word is no register's name.
+/// Reads a word as the name of a register.
 pub fn read_register(word: &[u8]) -> Option<u8>
     ensures some { IfSome result (λ register. register_text register ≡ word.now) }
     ensures below { IfSome result (λ register. register < 16) }
@@ -212,7 +212,7 @@ pub fn read_register(word: &[u8]) -> Option<u8>
     None
 }
 
-/// The number of a special register's name, and none where a word is no special register's name.
+/// Reads a word as the name of a special register.
 #[tactic(auto, unfolding(crate::specs::Text::special_text))]
 pub fn read_special(word: &[u8]) -> Option<u8>
     ensures some { IfSome result (λ special. special_text special ≡ word.now) }

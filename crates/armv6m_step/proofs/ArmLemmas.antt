@@ -1,4 +1,4 @@
--- The halfwords of each arm of a quick step: the table has them right, and what they are.
+-- The halfwords of each arm of a quick step: the table gives each arm the right ones, and each arm has one row of the instruction table.
 use Rattle.std.proofs.Common.{◌≡◌, ℕ, zero, suc, ◌+◌, ◌*◌, ◌/◌, ◌%◌, ◌^◌, ◌<◌, ◌≤◌, Bool, true, ◌&&◌, cond, leb, List, [], ◌∷◌, length, get_or, Some, None}
 use Rattle.std.proofs.Common.{refl, ap, ◌∙◌, arith, lit<, eq-eqb}
 use Rattle.std.proofs.lemmas.Bool.{leb-true}
@@ -31,9 +31,9 @@ use Rattle.armv6m_step.specs.declared.arms.TheConstants.{ARMS}
 use Rattle.armv6m_step.specs.Arms.{range_of, InArm}
 use Rattle.armv6m_step.proofs.ListLemmas.{both}
 
--- the table
+-- ---- the table of arms
 
--- all 64 halfwords of an entry are among those of its arm
+-- all 64 halfwords of a table entry are among those of its arm
 abbrev entry_fits : Arm → ℕ → Bool
 entry_fits a index = leb (range_of a).0 (64 * index) && leb (64 * index + 63) (range_of a).1
 
@@ -60,7 +60,7 @@ within first last index half fit is =
 pub in_arm : (half : ℕ) → half < 2 ^ 16 → InArm (get_or ARMS (half / 64) arm.LslsImmediate) half
 in_arm half small = within _ _ (0 + half / 64) half (fits_at ARMS 0 (half / 64) table_fits (omega (arith, small))) (omega arith)
 
--- what they are
+-- ---- the halfwords of each arm
 
 one_near : (low high half : ℕ) (r : Row) → half < 2 ^ 16 → low ≤ half → half ≤ high → high < 0xE800 → near low high rows ≡ r ∷ [] → fits r half ≡ true
     → decoded half ≡ Op (r.form half)
@@ -69,7 +69,7 @@ one_near low high half r small above below short alone fit =
     ∙ ap (λ (rs : List Row). op_or_undefined (first_fit rs half)) alone
     ∙ ap (λ (b : Bool). op_or_undefined (cond b (Some (r.form half)) None)) fit
 
--- the row is alone near the halfwords from the first to the last
+-- no other row is near the halfwords from `low` to `high`
 abbrev IsAlone : ℕ → ℕ → Row → Type 0
 IsAlone low high r = near low high rows ≡ r ∷ []
 

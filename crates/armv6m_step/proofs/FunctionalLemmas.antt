@@ -19,9 +19,8 @@ given_seen : {W : Type 0} (o : Outcome) (core core' : Core) (e : StepEnd) (w w' 
 given_seen (Ok next) core core' e w w' leaves same = same_seen _ _ _ _ _ _ leaves.0 leaves.1 same
 given_seen (Err own) core core' e w w' leaves same = same_seen _ _ _ _ _ _ leaves.0 leaves.1 same
 
--- Where each access answers and leaves what `answers` says of what one sees, unless the device failed, for the given excuse and at an
--- access that passes the test, so does the instruction, unless it failed for that excuse and makes such an access. For a bus without a device the
--- excuse is the empty type.
+-- If each access answers and leaves what `answers` says of the view, so does the instruction. The exception is a device failure: it needs the given excuse, and
+-- an access that passes the test. For a bus without a device the excuse is the empty type.
 module _ {B W : Type 0} (acts : B → Access → Result ℕ BusEnd → B → Type 0) (answers : Answering W) (view : B → W) (test : W → Access → Bool)
     (Excuse : Type 0) (alone : (b : B) (access : Access) (answer : Result ℕ BusEnd) (b' : B) → acts b access answer b'
     → ((answer ≡ Err bus_end.Device) × (test (view b) access ≡ true) × Excuse)

@@ -12,7 +12,7 @@ use Rattle.armv6m_step.specs.Access.{Access}
 use Rattle.armv6m_step.specs.Ends.{OwnEnd, Break, Undefined, Unaligned, BadState, Outcome, own_end, access_end, is_device_end}
 use Rattle.armv6m_step.specs.Meaning.{Meaning, Gives, Asks, Leaves, Runs}
 
--- no instruction ends in a device fault by itself
+-- no instruction ends by a device fault of its own
 pub own_is_no_device : (own : OwnEnd) → is_device_end (own_end own) ≡ false
 own_is_no_device (Break pc) = refl
 own_is_no_device (Undefined pc) = refl
@@ -23,8 +23,7 @@ leaves_no_device : (o : Outcome) (core core' : Core) (e : StepEnd) → Leaves o 
 leaves_no_device (Ok next) core core' e leaves = ap is_device_end leaves.0
 leaves_no_device (Err own) core core' e leaves = ap is_device_end leaves.0 ∙ own_is_no_device own
 
--- What holds of a bus and an end that is no device fault, of an access that isn't answered, and over one more answered access in
--- front, holds of each run.
+-- A relation holds of each run if it holds of ends without a device fault and of unanswered accesses, and if an answered access before a run keeps it.
 pub runs_carry : {B : Type 0} (acts : B → Access → Result ℕ BusEnd → B → Type 0) (R : B → StepEnd → B → Type 0)
     → ((b : B) (e : StepEnd) → is_device_end e ≡ false → R b e b)
     → ((b b' : B) (access : Access) (x : BusEnd) → acts b access (Err x) b' → R b (access_end access x) b')
@@ -47,7 +46,7 @@ pub access_device : (access : Access) (x : BusEnd) → is_device_end (access_end
 access_device access bus_end.Fault = refl
 access_device access bus_end.Device = refl
 
--- a bus that counts the device faults of its accesses counts that of an instruction
+-- a bus that counts the device faults of its accesses counts the device fault of an instruction
 pub runs_counted : {B : Type 0} (acts : B → Access → Result ℕ BusEnd → B → Type 0) (faults : B → ℕ)
     → ((before : B) (access : Access) (answer : Result ℕ BusEnd) (after : B) → acts before access answer after →
     IsCounted (faults before) (faults after) (is_device answer))

@@ -1,4 +1,4 @@
--- An instruction as its accesses, and that a quick step is the instruction of its halfword.
+-- An instruction as a sequence of accesses, and that a quick step is the instruction of its halfword.
 pub mod RunLemmas
 pub mod ShiftLemmas
 pub mod ListLemmas

@@ -1,4 +1,4 @@
--- A loop over the registers of a list goes through its accesses.
+-- A loop over the registers of a list makes the accesses of that list.
 use Rattle.std.proofs.Common.{◌≡◌, ℕ, zero, suc, ◌-◌, ◌*◌, ◌^◌, ◌<◌, ◌≤◌, Bool, true, false, ◌&&◌, ◌||◌, eqb, ltb, List, [], ◌∷◌, length}
 use Rattle.std.proofs.Common.{refl, sym, ap, ap₂, ◌∙◌, arith, Ok, Err, Result, ⊎_elim, eqb-true, ne_eqb, ltb-true}
 use Rattle.std.proofs.lemmas.Bool.{cases_lt}
@@ -21,7 +21,7 @@ pub both : (a b : Bool) → (a && b) ≡ true → (a ≡ true) × (b ≡ true)
 both true b e = (refl, e)
 both false b e = cc
 
--- how many registers a list has, by a table of all lists
+-- how many registers a list has, checked by a table of all lists
 
 abbrev same_ones : ℕ → Bool
 same_ones list = eqb (count_ones list) (length (low_registers list))
@@ -46,7 +46,7 @@ ones_listed list small =
     let same : count_ones list ≡ length (low_registers list) = eqb-true _ _ (below_all same_ones 256 list all_same (omega (arith, small))) in
     ap (λ (n : ℕ). 4 * n) same
 
--- the first register of a list and the list of the others, by a table of all lists
+-- the first register of a list and the list of the others, checked by a table of all lists
 
 abbrev same_registers : List ℕ → List ℕ → Bool
 same_registers [] [] = true
@@ -84,7 +84,7 @@ first_at list some small =
     both _ _ (or_else (eqb list 0) _ (ne_eqb list 0 (λ e. omega (arith, some, e))) fit) in
     (same_registers_are _ _ two.0, ltb-true _ _ two.1)
 
--- how far a loop over the registers has come: what runs from what is left of the list runs from its start
+-- how far a loop over the registers has come: a run of what is left of the list is a run from its start
 unfoldable pub StoredTo : {B : Type 0} → Acts B → Core → ℕ → ℕ → B → ℕ → ℕ → B → Type 0
 StoredTo {B} acts core at list b0 to left b =
     (then' : Meaning) (e : StepEnd) (core' : Core) (after : B) → Runs acts (store_each core to (low_registers left) then') core b e core' after →

@@ -1,4 +1,4 @@
--- A quick step does the instruction of a halfword, where its arm does what the instruction means.
+-- A quick step does the instruction of a halfword, if its arm does what the instruction means.
 use Rattle.std.proofs.Common.{◌≡◌, ℕ, List, refl, sym, ap, subst, ◌∙◌}
 use Rattle.std.proofs.lemmas.List.{set-get_or}
 use Rattle.armv6m_decode.specs.declared.instr.Alu.{Alu}
@@ -25,7 +25,7 @@ use Rattle.armv6m_step.specs.Registers.{pc_of, moved}
 use Rattle.armv6m_step.specs.Step.{meaning, of_halfword, instruction}
 
 module _ {B : Type 0} (acts : Acts B) (core core' : Core) (half pc : ℕ) (bus : B) where
-  -- the instruction of a halfword is done where its meaning is
+  -- a quick step with an instruction's meaning is a quick step of its halfword
   pub fetched : (result : Quick) (bus' : B) (i : Instr) → decoded half ≡ Op i → pc ≡ pc_of core →
       Steps acts (meaning core (sum pc 2) i) core bus result core' bus'
       → Steps acts (of_halfword core half (decoded half)) core bus result core' bus'
@@ -51,12 +51,12 @@ module _ {B : Type 0} (acts : Acts B) (core core' : Core) (half pc : ℕ) (bus :
       → Steps acts (of_halfword core half (decoded half)) core bus result core' bus
   other_goes result op is at done = fetched result bus (instr.Other op) is at (goes result (other core (sum pc 2) op) done)
 
--- a core with the PC that it has
+-- a core whose PC is set to the one that it has stays the same
 pub moved_here : (core : Core) → moved core (pc_of core) ≡ core
 unfolding moved
 moved_here core = ap (λ (l : List ℕ). let c : Core = record core { regs = l } in c) (set-get_or core.regs 15 0)
 
--- What a quick step came to, from a core that was given its PC.
+-- What a quick step leaves, from a core whose PC was set.
 
 module _ {B : Type 0} (acts : Acts B) (core held core' : Core) (bus bus' : B) (result : Quick) (given : held ≡ core)
     (done : Steps acts (instruction held) held bus result core' bus') where

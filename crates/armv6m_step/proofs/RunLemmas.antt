@@ -1,4 +1,4 @@
--- How a run is put together from single accesses.
+-- How single accesses make a run.
 use Rattle.std.proofs.Common.{◌≡◌, ℕ, ◌%◌, true, cond, nat_eq, refl, Ok, Err, Result, inl, inr}
 use Rattle.bench_model.specs.declared.bench_fault.BusEnd.{BusEnd}
 use Rattle.armv6m_step.specs.declared.core_state.Core.{Core}
@@ -9,12 +9,12 @@ use Rattle.armv6m_step.specs.Ends.{Outcome, Unaligned, stop_end}
 use Rattle.armv6m_step.specs.Meaning.{Meaning, Gives, Asks, Leaves, Runs, load, store, stops, Refused, LoadGives, StoreGives}
 
 module _ {B : Type 0} (acts : B → Access → Result ℕ BusEnd → B → Type 0) (core : Core) where
-  -- an instruction that asks nothing
+  -- the run of an instruction without accesses
   pub runs_gives : (o : Outcome) (b : B) (e : StepEnd) (core' : Core) → Leaves o core e core' → Runs acts (Gives o) core b e core' b
   unfolding Runs
   runs_gives o b e core' leaves = (leaves, refl)
 
-  -- an aligned access that was answered, and one that was not made or not answered
+  -- the run of an aligned access that was answered, and of one that wasn't made or wasn't answered
   asks_ok : (width : ℕ) (access : Access) (then' : ℕ → Meaning) (b mid after : B) (v : ℕ) (e : StepEnd) (core' : Core) →
       nat_eq (address access % width) 0 ≡ true → acts b access (Ok v) mid → Runs acts (then' v) core mid e core' after →
       Runs acts (cond (nat_eq (address access % width) 0) (Asks access then') (stops (Unaligned (address access)))) core b e core' after

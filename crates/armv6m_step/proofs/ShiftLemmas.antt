@@ -1,4 +1,4 @@
--- A shift to the right by an immediate, made of two.
+-- A right shift by an immediate, as a shift by all bits but one and a shift by one.
 use Rattle.std.proofs.Common.{◌≡◌, ℕ, zero, suc, ◌+◌, ◌/◌, ◌%◌, ◌^◌, ◌<◌, Bool, sym, ap, arith}
 use Rattle.std.proofs.lemmas.Bool.Decides.{nat_tests}
 use Rattle.std.proofs.Math.Pow.{shr-shr}
@@ -6,7 +6,7 @@ use Rattle.armv6m_alu.specs.Bits.{is_bit_set}
 use Rattle.armv6m_alu.specs.Shifts.{shifted, shifted_right}
 use Rattle.armv6m_step.specs.DataRows.{shift_amount}
 
--- all shifts but one, and then that one
+-- a right shift by all bits but one, then by one, is the whole shift
 pub right : (v i : ℕ) (carry : Bool) → v < 2 ^ 32 → i < 32 →
     shifted (v / 2 ^ ((i + 31) % 32) / 2) (is_bit_set v ((i + 31) % 32)) ≡ shifted_right v (shift_amount i) carry
 unfolding shifted_right

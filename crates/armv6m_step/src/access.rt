@@ -1,4 +1,4 @@
-//! Loads and stores at any address: at one that is not a multiple of the width the instruction ends, and the bus isn't asked.
+//! Loads and stores at any address. If it isn't a multiple of the width, the instruction ends and the bus isn't asked.
 #![tactic(auto, using(std::proofs::lemmas::Bool::Decides::nat_tests), unfolding(crate::specs::Meaning::LoadGives, crate::specs::Meaning::StoreGives))]
 
 ghost use Rattle.std.specs.Prelude.{◌≡◌, ◌<◌, ◌%◌, ◌^◌, Ok, IfOk, IfSome};
@@ -100,7 +100,7 @@ fn store32<B: Bus>(bus: &mut B, at: u32, value: u32) -> Result<(), Stop>
     }
 }
 
-/// The byte at an address, where the bus has it at hand.
+/// The byte at an address, if the bus has it at hand.
 #[inline(always)]
 pub(crate) fn peek8<B: Bus>(bus: &B, at: u32) -> Option<u32>
     ensures gives { IfSome result (λ v. LoadGives B.acts 1 at bus.now (Ok v) bus.now) }
@@ -109,7 +109,7 @@ pub(crate) fn peek8<B: Bus>(bus: &B, at: u32) -> Option<u32>
     bus.peek8(at)
 }
 
-/// The word at an address, where the bus has it at hand.
+/// The word at an address, if the bus has it at hand.
 #[inline(always)]
 pub(crate) fn peek32<B: Bus>(bus: &B, at: u32) -> Option<u32>
     ensures { IfSome result (λ v. LoadGives B.acts 4 at bus.now (Ok v) bus.now) }
@@ -117,7 +117,7 @@ pub(crate) fn peek32<B: Bus>(bus: &B, at: u32) -> Option<u32>
     bus.peek32(at)
 }
 
-/// The halfword at an address, where the bus has it at hand.
+/// The halfword at an address, if the bus has it at hand.
 #[inline(always)]
 pub(crate) fn peek16<B: Bus>(bus: &B, at: u32) -> Option<u32>
     ensures gives { IfSome result (λ v. LoadGives B.acts 2 at bus.now (Ok v) bus.now) }
@@ -126,7 +126,7 @@ pub(crate) fn peek16<B: Bus>(bus: &B, at: u32) -> Option<u32>
     bus.peek16(at)
 }
 
-/// The first halfword of an instruction, where the bus has it at hand.
+/// The first halfword of an instruction, if the bus has it at hand.
 #[inline(always)]
 pub(crate) fn fetch16<B: Bus>(bus: &B, at: u32) -> Option<u32>
     ensures gives { IfSome result (λ v. LoadGives B.acts 2 at bus.now (Ok v) bus.now) }
@@ -147,7 +147,7 @@ pub(crate) fn far_load8<B: Bus>(bus: &mut B, at: u32) -> Result<u32, Stop>
     }
 }
 
-/// Loads a byte, in line where the bus has it at hand.
+/// Loads a byte, in line if the bus has it at hand.
 #[inline(always)]
 pub(crate) fn byte_at<B: Bus>(bus: &mut B, at: u32) -> Result<u32, Stop>
     ensures gives { LoadGives B.acts 1 at bus.old result bus.new }
@@ -171,7 +171,7 @@ pub(crate) fn far_load16<B: Bus>(bus: &mut B, at: u32) -> Result<u32, Stop>
     }
 }
 
-/// Loads a halfword, in line where the bus has it at hand.
+/// Loads a halfword, in line if the bus has it at hand.
 #[inline(always)]
 pub(crate) fn half_at<B: Bus>(bus: &mut B, at: u32) -> Result<u32, Stop>
     ensures gives { LoadGives B.acts 2 at bus.old result bus.new }
@@ -194,7 +194,7 @@ pub(crate) fn far_load32<B: Bus>(bus: &mut B, at: u32) -> Result<u32, Stop>
     }
 }
 
-/// Loads a word, in line where the bus has it at hand.
+/// Loads a word, in line if the bus has it at hand.
 #[inline(always)]
 pub(crate) fn word_at<B: Bus>(bus: &mut B, at: u32) -> Result<u32, Stop>
     ensures { LoadGives B.acts 4 at bus.old result bus.new }
@@ -217,7 +217,7 @@ fn far_store8<B: Bus>(bus: &mut B, at: u32, value: u32) -> Result<(), Stop>
     }
 }
 
-/// Stores a byte, in line where the bus has it at hand.
+/// Stores a byte, in line if the bus has it at hand.
 #[inline(always)]
 pub(crate) fn byte_to<B: Bus>(bus: &mut B, at: u32, value: u32) -> Result<(), Stop>
     requires { value < 2 ^ 8 }
@@ -241,7 +241,7 @@ fn far_store16<B: Bus>(bus: &mut B, at: u32, value: u32) -> Result<(), Stop>
     }
 }
 
-/// Stores a halfword, in line where the bus has it at hand.
+/// Stores a halfword, in line if the bus has it at hand.
 #[inline(always)]
 pub(crate) fn half_to<B: Bus>(bus: &mut B, at: u32, value: u32) -> Result<(), Stop>
     requires { value < 2 ^ 16 }
@@ -264,7 +264,7 @@ fn far_store32<B: Bus>(bus: &mut B, at: u32, value: u32) -> Result<(), Stop>
     }
 }
 
-/// Stores a word, in line where the bus has it at hand.
+/// Stores a word, in line if the bus has it at hand.
 #[inline(always)]
 pub(crate) fn word_to<B: Bus>(bus: &mut B, at: u32, value: u32) -> Result<(), Stop>
     ensures { StoreGives B.acts 4 at value bus.old result bus.new }

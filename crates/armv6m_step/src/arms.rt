@@ -92,11 +92,11 @@ pub(crate) enum Arm {
     Branch,
     /// BL.
     Call,
-    /// No arm of its own.
+    /// No arm: the full step executes the instruction.
     Other,
 }
 
-/// An array of arms, by rows of how many entries have which arm.
+/// An array of arms, from rows of an arm and how many entries have it.
 macro_rules! arms {
     ([$($entry:ident)*]) => { [$(Arm::$entry),*] };
     ([$($entry:ident)*] 1 $arm:ident, $($rest:tt)*) => { arms!([$($entry)* $arm] $($rest)*) };

@@ -32,7 +32,7 @@ fn condition_holds(core: &Core, condition: Condition) -> bool
     }
 }
 
-/// N = V.
+/// Whether N equals V.
 #[inline(always)]
 fn is_same(core: &Core) -> bool
     ensures { result ≡ same core.now.n core.now.v }
@@ -69,7 +69,7 @@ fn link_and_exchange(core: &mut Core, next: u32, m: u8) -> Result<(), Stop>
     Ok(())
 }
 
-/// Does the instruction, where the next one is at `next`.
+/// Executes the instruction, if the one after it is at `next`.
 #[inline(always)]
 pub(crate) fn run(core: &mut Core, next: u32, op: Branch) -> Result<(), Stop>
     ensures { Leaves (branch core.old next op) core.old (end_of result) core.new }

@@ -9,7 +9,7 @@ use bench_model::BusEnd;
 
 /// What loads and stores go to. Addresses are in bytes, values little-endian.
 pub trait Bus {
-    /// From before, the bus may give this answer to the access and go on to after.
+    /// What an access may do: the bus before it, the access, the answer, and the bus after it.
     ghost acts: { Self → Access → Result ℕ BusEnd → Self → Type 0 };
 
     /// How often the device on the bus has failed.
@@ -56,7 +56,7 @@ pub trait Bus {
         None
     }
 
-    /// The byte at an address, where the bus has it at hand: it would answer a load with it, and be as it is.
+    /// The byte at an address, if the bus has it at hand: a load would give it and leave the bus as it is.
     fn peek8(&self, at: u32) -> Option<u32>
         ensures acts { IfSome result (λ v. acts self.now (Load 1 at) (Ok v) self.now) }
         ensures fits { IfSome result (λ v. v < 2 ^ 8) }
@@ -64,7 +64,7 @@ pub trait Bus {
         None
     }
 
-    /// The halfword at an even address, where the bus has it at hand.
+    /// The halfword at an even address, if the bus has it at hand.
     fn peek16(&self, at: u32) -> Option<u32>
         ensures even { IfSome result (λ v. at % 2 ≡ 0) }
         ensures acts { IfSome result (λ v. acts self.now (Load 2 at) (Ok v) self.now) }
@@ -73,7 +73,7 @@ pub trait Bus {
         None
     }
 
-    /// The word at a multiple of 4, where the bus has it at hand.
+    /// The word at a multiple of 4, if the bus has it at hand.
     fn peek32(&self, at: u32) -> Option<u32>
         ensures even { IfSome result (λ v. at % 4 ≡ 0) }
         ensures acts { IfSome result (λ v. acts self.now (Load 4 at) (Ok v) self.now) }
@@ -81,7 +81,7 @@ pub trait Bus {
         None
     }
 
-    /// Stores a byte where the bus has the address at hand, and says so. Else it stays as it was.
+    /// Stores a byte if the bus has the address at hand, and answers whether it did. If not, the bus stays as it was.
     fn poke8(&mut self, at: u32, value: u32) -> bool
         requires { value < 2 ^ 8 }
         ensures acts { IsTrue result → acts self.old (Store 1 at value) (Ok 0) self.new }
@@ -90,7 +90,7 @@ pub trait Bus {
         false
     }
 
-    /// Stores a halfword at an even address, where the bus has it at hand, and says so.
+    /// Stores a halfword at an even address if the bus has it at hand, and answers whether it did.
     fn poke16(&mut self, at: u32, value: u32) -> bool
         requires { value < 2 ^ 16 }
         ensures even { IsTrue result → at % 2 ≡ 0 }
@@ -100,7 +100,7 @@ pub trait Bus {
         false
     }
 
-    /// Stores a word at a multiple of 4, where the bus has it at hand, and says so.
+    /// Stores a word at a multiple of 4 if the bus has it at hand, and answers whether it did.
     fn poke32(&mut self, at: u32, value: u32) -> bool
         ensures even { IsTrue result → at % 4 ≡ 0 }
         ensures acts { IsTrue result → acts self.old (Store 4 at value) (Ok 0) self.new }
@@ -109,7 +109,7 @@ pub trait Bus {
         false
     }
 
-    /// The count of device faults never falls: it rises where an access is answered `Device`, and else it stays.
+    /// The count of device faults rises if an access is answered `Device`, and stays otherwise.
     ghost counted: { (before : Self) (access : Access) (answer : Result ℕ BusEnd) (after : Self) → acts before access answer after
         → IsCounted (faults before) (faults after) (is_device answer) };
 }

@@ -6,7 +6,7 @@ use armv6m_alu::Sum;
 use armv6m_decode::registers::{PC, SP};
 use armv6m_decode::targets::pc_at;
 
-/// The registers and flags of the core. Register `PC` is the address of the instruction to come.
+/// The registers and flags of the core. Register `PC` is the address of the next instruction to run.
 #[derive(Clone, Copy, PartialEq, Eq, Debug)]
 pub struct Core {
     pub regs: [u32; 16],
@@ -14,16 +14,16 @@ pub struct Core {
     pub n: bool,
     /// The last result was zero.
     pub z: bool,
-    /// Carry.
+    /// The carry flag.
     pub c: bool,
-    /// Overflow.
+    /// The overflow flag.
     pub v: bool,
-    /// No interrupts are taken. The core has none, so this is just kept.
+    /// No interrupts are taken. The emulated core has none, so this flag is only kept.
     pub primask: bool,
 }
 
 impl Core {
-    /// The address of the instruction.
+    /// The address of the next instruction to run.
     #[inline(always)]
     pub fn pc(&self) -> u32
         ensures { result ≡ pc_of self.now }
@@ -41,7 +41,7 @@ impl Core {
         if n % 16 == PC { pc_at(value) } else { value }
     }
 
-    /// A register as an operand, by a number as wide as an address of the host, which takes no conversion.
+    /// A register as an operand. Its number has the width of a host's address, so no conversion is needed.
     #[inline(always)]
     #[tactic(auto, unfolding(crate::specs::Registers::reg))]
     pub(crate) fn read_wide(&self, n: usize) -> u32
@@ -91,7 +91,7 @@ impl Core {
         self.regs[(n % 16) as usize] = if n % 16 == SP { value / 4 * 4 } else { value };
     }
 
-    /// Makes an address that of the next instruction.
+    /// Sets the address of the next instruction.
     #[inline(always)]
     #[tactic(auto, unfolding(crate::specs::Registers::moved))]
     pub fn go_to(&mut self, pc: u32)

@@ -71,7 +71,7 @@ fn put_plain(core: &mut Core, next: u32, d: u8, value: u32)
     }
 }
 
-/// x - y. It is the sum of x, NOT y and 1.
+/// x - y, as the sum of x, NOT y and 1.
 #[inline(always)]
 #[tactic(auto, using(std::proofs::lemmas::Bool::Decides::nat_tests, std::proofs::lemmas::Int::ints), unfolding(armv6m_alu::specs::Sums::sum_with_carry))]
 pub(crate) fn subtract(x: u32, y: u32) -> Sum
@@ -85,7 +85,7 @@ pub(crate) fn subtract(x: u32, y: u32) -> Sum
     }
 }
 
-/// Two numbers of unlike signs have a difference without the sign of the first.
+/// Whether x - y overflows: x and y have different signs, and the difference doesn't have the sign of x.
 #[inline(always)]
 fn is_lost(x_sign: bool, y_sign: bool, value_sign: bool) -> bool
     ensures { result ≡ is_sign_lost x_sign (not y_sign) value_sign }
@@ -97,7 +97,7 @@ fn is_lost(x_sign: bool, y_sign: bool, value_sign: bool) -> bool
     }
 }
 
-/// x - y, as `subtract`: of two registers, a signed comparison costs less than the three signs.
+/// x - y, like `subtract`. For two registers one signed comparison costs less than the three signs.
 #[inline(always)]
 #[tactic(auto, using(std::proofs::lemmas::Bool::Decides::nat_tests, std::proofs::lemmas::Int::ints), unfolding(armv6m_alu::specs::Sums::sum_with_carry))]
 pub(crate) fn difference(x: u32, y: u32) -> Sum
@@ -144,7 +144,7 @@ pub(crate) fn add_carry(x: u32, y: u32, carry: bool) -> Sum
     }
 }
 
-/// A value shifted right by an immediate, in which 0 stands for 32: by all but one, so that the bit of the carry comes last, and then by one.
+/// A value shifted right by an immediate, where 0 means 32. It is first shifted by all but one bit, then by one: the carry is the last bit.
 #[inline(always)]
 pub(crate) fn right_by(value: u32, immediate: u8) -> Shifted
     requires { immediate < 32 }
@@ -264,7 +264,7 @@ fn compare_high(core: &mut Core, next: u32, n: u8, m: u8) -> Result<(), Stop>
     Ok(())
 }
 
-/// Does the instruction, where the next one is at `next`.
+/// Executes the instruction, if the one after it is at `next`.
 #[inline(always)]
 pub(crate) fn run(core: &mut Core, next: u32, op: Alu) -> Result<(), Stop>
     ensures { Leaves (alu core.old next op) core.old (end_of result) core.new }

@@ -7,7 +7,7 @@ ghost use Rattle.armv6m_step.specs.Ends.{end_of};
 pub enum StepEnd {
     /// The instruction is done.
     Went,
-    /// It is `BKPT`.
+    /// The instruction is `BKPT`.
     Break { pc: u32 },
     /// There is no such instruction, or it isn't allowed with these fields.
     Undefined { pc: u32 },
@@ -21,7 +21,7 @@ pub enum StepEnd {
     Device,
 }
 
-/// Why an instruction is not done: the ends but for `StepEnd::Went`.
+/// Why an instruction isn't done: the ends other than `StepEnd::Went`.
 #[derive(Clone, Copy)]
 pub enum Stop {
     Break { pc: u32 },
@@ -32,7 +32,7 @@ pub enum Stop {
     Device,
 }
 
-/// The end of a step whose instruction went so.
+/// The end of a step, from how its instruction went.
 #[inline(always)]
 pub(crate) fn step_end(made: Result<(), Stop>) -> StepEnd
     ensures { result ≡ end_of made }

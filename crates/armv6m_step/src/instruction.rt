@@ -25,7 +25,7 @@ fn execute<B: Bus>(core: &mut Core, bus: &mut B, next: u32, instr: Instr) -> Res
     }
 }
 
-/// Does the instruction at the PC of these two halfwords, which is likely a branch.
+/// Executes the instruction at the PC that consists of these two halfwords, most likely a branch.
 #[inline(always)]
 #[tactic(auto, using(crate::proofs::RunLemmas::asks))]
 fn pair<B: Bus>(core: &mut Core, bus: &mut B, half: u16, second: u16) -> Result<(), Stop>
@@ -39,7 +39,7 @@ fn pair<B: Bus>(core: &mut Core, bus: &mut B, half: u16, second: u16) -> Result<
     }
 }
 
-/// Does the instruction at the PC that this halfword is, or begins, whichever it is.
+/// Executes the instruction at the PC that this halfword is or begins.
 #[tactic(auto, using(crate::proofs::RunLemmas::asks))]
 fn go_on<B: Bus>(core: &mut Core, bus: &mut B, half: u16) -> Result<(), Stop>
     ensures { Runs B.acts (of_halfword core.old half (decoded half)) core.old bus.old (end_of result) core.new bus.new }
@@ -55,7 +55,7 @@ fn go_on<B: Bus>(core: &mut Core, bus: &mut B, half: u16) -> Result<(), Stop>
     }
 }
 
-/// Fetches the instruction at the PC and does it.
+/// Fetches the instruction at the PC and executes it.
 #[tactic(auto, using(crate::proofs::RunLemmas::asks), unfolding(crate::specs::Step::instruction))]
 fn fetch_and_execute<B: Bus>(core: &mut Core, bus: &mut B) -> Result<(), Stop>
     ensures { Runs B.acts (instruction core.old) core.old bus.old (end_of result) core.new bus.new }
@@ -64,9 +64,9 @@ fn fetch_and_execute<B: Bus>(core: &mut Core, bus: &mut B) -> Result<(), Stop>
     go_on(core, bus, half)
 }
 
-/// Does the instruction at the PC: what its row of the table means, with its end. The bus goes through its accesses in order, up
-/// to the first that is not answered. An instruction that ends otherwise than `Went` leaves every register and flag as it was;
-/// its stores before a fault stand. `Device` comes only where the bus's count of device faults rose.
+/// Executes the instruction at the PC: what its row of the table means, with its end. The bus gets its accesses in order, up to the first
+/// that isn't answered. An instruction that ends other than by `Went` leaves every register and flag as it was, but its stores before a
+/// fault remain. `Device` comes only if the bus's count of device faults rose.
 #[inline(always)]
 pub fn step<B: Bus>(core: &mut Core, bus: &mut B) -> StepEnd
     ensures runs { Runs B.acts (instruction core.old) core.old bus.old result core.new bus.new }

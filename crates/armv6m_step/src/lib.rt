@@ -1,7 +1,7 @@
 //! One Armv6-M instruction over any bus.
 //!
-//! `specs/` has what each instruction means, row by row beside the pseudocode of the Armv6-M Architecture Reference Manual; `step`
-//! is proved to do just that. No call takes memory.
+//! `specs/` states what each instruction means, row by row next to the pseudocode of the Armv6-M Architecture Reference Manual. `step` is
+//! proved to do exactly that. No call takes memory.
 #![tactic(auto)]
 
 mod access;

@@ -1,4 +1,4 @@
-//! Loads of a quick step, into a register. What is at hand goes there by a way of its own, beside that of what is loaded out of line.
+//! Loads of a quick step to a register. A value that the bus has at hand takes a separate path from one that is loaded out of line.
 
 ghost use Rattle.armv6m_step.specs.MemoryRows.{load_word, load_half, load_byte};
 ghost use Rattle.armv6m_step.specs.Numbers.{sum};
@@ -8,7 +8,7 @@ use crate::access::{far_load8, far_load16, far_load32, peek8, peek16, peek32};
 use crate::quick::{Quick, stopped};
 use crate::{Bus, Core};
 
-/// The word at an address.
+/// Loads the word at an address to a register.
 #[inline(always)]
 #[tactic(auto, using(crate::proofs::RunLemmas::asks), unfolding(crate::specs::MemoryRows::load_word))]
 pub(crate) fn word_into<B: Bus>(core: &mut Core, bus: &mut B, pc: u32, t: usize, at: u32) -> Quick
@@ -29,7 +29,7 @@ pub(crate) fn word_into<B: Bus>(core: &mut Core, bus: &mut B, pc: u32, t: usize,
     }
 }
 
-/// The halfword at an address, with zeros above it.
+/// Loads the halfword at an address to a register, with zeros as its upper bits.
 #[inline(always)]
 #[tactic(auto, using(crate::proofs::RunLemmas::asks), unfolding(crate::specs::MemoryRows::load_half))]
 pub(crate) fn half_into<B: Bus>(core: &mut Core, bus: &mut B, pc: u32, t: usize, at: u32) -> Quick
@@ -50,7 +50,7 @@ pub(crate) fn half_into<B: Bus>(core: &mut Core, bus: &mut B, pc: u32, t: usize,
     }
 }
 
-/// The byte at an address, with zeros above it.
+/// Loads the byte at an address to a register, with zeros as its upper bits.
 #[inline(always)]
 #[tactic(auto, using(crate::proofs::RunLemmas::asks), unfolding(crate::specs::MemoryRows::load_byte))]
 pub(crate) fn byte_into<B: Bus>(core: &mut Core, bus: &mut B, pc: u32, t: usize, at: u32) -> Quick

@@ -11,7 +11,7 @@ use crate::{Bus, Core, Stop};
 use armv6m_decode::Many;
 use armv6m_decode::registers::{LR, SP};
 
-/// How many bytes the registers of the list take.
+/// How many bytes the registers of a list take.
 #[tactic(auto, using(crate::proofs::ListLemmas::ones_listed))]
 fn bytes_of(list: u8) -> u32
     ensures value { result ≡ list_bytes list }
@@ -46,7 +46,7 @@ fn store_list<B: Bus>(core: &Core, bus: &mut B, at: u32, list: u8) -> Result<(),
     Ok(())
 }
 
-/// Makes the core what it was before an instruction that stopped.
+/// Restores the core of before an instruction, if the instruction stopped.
 #[inline(always)]
 fn restore(core: &mut Core, before: Core, made: Result<(), Stop>)
     ensures { core.new ≡ unless_stopped before core.old made }
@@ -74,7 +74,7 @@ fn load_list<B: Bus>(core: &mut Core, bus: &mut B, at: u32, list: u8) -> Result<
     Ok(())
 }
 
-/// Does the instruction, where the next one is at `next`.
+/// Executes the instruction, if the one after it is at `next`.
 #[inline(always)]
 #[tactic(auto, using(crate::proofs::RunLemmas::asks))]
 pub(crate) fn run<B: Bus>(core: &mut Core, bus: &mut B, next: u32, op: Many) -> Result<(), Stop>

@@ -15,7 +15,7 @@ use armv6m_decode::Memory;
 use armv6m_decode::registers::SP;
 use armv6m_decode::targets::literal;
 
-/// An offset in bytes, from an immediate that counts words, halfwords or bytes.
+/// The offset in bytes of an immediate that counts words, halfwords or bytes.
 pub(crate) fn words(count: u8) -> u32
     ensures { result ≡ 4 * count }
 {
@@ -34,7 +34,7 @@ pub(crate) fn bytes(count: u8) -> u32
     u32::from(count)
 }
 
-/// The address of a register and an offset in bytes.
+/// The sum of a register and an offset in bytes.
 pub(crate) fn at_offset(core: &Core, n: u8, offset: u32) -> u32
     ensures { result ≡ sum (reg core.now n) offset }
 {
@@ -53,7 +53,7 @@ fn literal_into<B: Bus>(core: &mut Core, bus: &mut B, next: u32, t: u8, i: u8) -
     Ok(())
 }
 
-/// LDR: the word at R[n] + offset, into R[t].
+/// LDR: loads the word at R[n] + offset to R[t].
 #[inline(always)]
 #[tactic(auto, using(crate::proofs::RunLemmas::asks), unfolding(crate::specs::MemoryRows::load_word))]
 fn word_into<B: Bus>(
@@ -72,7 +72,7 @@ fn word_into<B: Bus>(
     Ok(())
 }
 
-/// LDRH: the halfword, with zeros above it.
+/// LDRH: loads a halfword, with zeros as its upper bits.
 #[inline(always)]
 #[tactic(auto, using(crate::proofs::RunLemmas::asks), unfolding(crate::specs::MemoryRows::load_half))]
 fn half_into<B: Bus>(
@@ -91,7 +91,7 @@ fn half_into<B: Bus>(
     Ok(())
 }
 
-/// LDRB: the byte, with zeros above it.
+/// LDRB: loads a byte, with zeros as its upper bits.
 #[inline(always)]
 #[tactic(auto, using(crate::proofs::RunLemmas::asks), unfolding(crate::specs::MemoryRows::load_byte))]
 fn byte_into<B: Bus>(
@@ -110,7 +110,7 @@ fn byte_into<B: Bus>(
     Ok(())
 }
 
-/// LDRSH: the halfword, with its sign above it.
+/// LDRSH: loads a halfword, with its sign as its upper bits.
 #[inline(always)]
 #[tactic(auto, using(crate::proofs::RunLemmas::asks), unfolding(crate::specs::MemoryRows::load_signed_half))]
 fn signed_half_into<B: Bus>(
@@ -129,7 +129,7 @@ fn signed_half_into<B: Bus>(
     Ok(())
 }
 
-/// LDRSB: the byte, with its sign above it.
+/// LDRSB: loads a byte, with its sign as its upper bits.
 #[inline(always)]
 #[tactic(auto, using(crate::proofs::RunLemmas::asks), unfolding(crate::specs::MemoryRows::load_signed_byte))]
 fn signed_byte_into<B: Bus>(
@@ -148,7 +148,7 @@ fn signed_byte_into<B: Bus>(
     Ok(())
 }
 
-/// STR: R[t], to the word at R[n] + offset.
+/// STR: stores R[t] as the word at R[n] + offset.
 #[inline(always)]
 #[tactic(auto, using(crate::proofs::RunLemmas::asks), unfolding(crate::specs::MemoryRows::store_word))]
 fn word_from<B: Bus>(
@@ -166,7 +166,7 @@ fn word_from<B: Bus>(
     Ok(())
 }
 
-/// STRH: the low halfword of R[t].
+/// STRH: stores the low halfword of R[t].
 #[inline(always)]
 #[tactic(auto, using(crate::proofs::RunLemmas::asks), unfolding(crate::specs::MemoryRows::store_half))]
 fn half_from<B: Bus>(
@@ -184,7 +184,7 @@ fn half_from<B: Bus>(
     Ok(())
 }
 
-/// STRB: the low byte of R[t].
+/// STRB: stores the low byte of R[t].
 #[inline(always)]
 #[tactic(auto, using(crate::proofs::RunLemmas::asks), unfolding(crate::specs::MemoryRows::store_byte))]
 fn byte_from<B: Bus>(
@@ -202,7 +202,7 @@ fn byte_from<B: Bus>(
     Ok(())
 }
 
-/// Does the instruction, where the next one is at `next`.
+/// Executes the instruction, if the one after it is at `next`.
 pub(crate) fn run<B: Bus>(core: &mut Core, bus: &mut B, next: u32, op: Memory) -> Result<(), Stop>
     ensures { Runs B.acts (memory core.old next op) core.old bus.old (end_of result) core.new bus.new }
 {

@@ -31,7 +31,7 @@ impl MemoryBus {
         MemoryBus { base, bytes }
     }
 
-    /// The bytes as they are now.
+    /// The present bytes.
     pub fn bytes(&self) -> &[u8]
         ensures { result.now ≡ self.now.bytes }
     {
@@ -95,7 +95,7 @@ impl Bus for MemoryBus {
     }
 }
 
-/// Does the instruction at the PC over the memory. How it ends and what it leaves is a function of the core and the bytes.
+/// Executes the instruction at the PC over the memory. Its end and what it leaves are a function of the core and the bytes.
 pub fn step_in_memory(core: &mut Core, bus: &mut MemoryBus) -> StepEnd
     ensures { seen result core.new bus.new ≡ step_of ram_answer core.old bus.old }
 {

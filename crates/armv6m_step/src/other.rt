@@ -116,7 +116,7 @@ fn write_to(core: &mut Core, next: u32, n: u8, special: u8) -> Result<(), Stop>
     Ok(())
 }
 
-/// Does the instruction, where the next one is at `next`.
+/// Executes the instruction, if the one after it is at `next`.
 pub(crate) fn run(core: &mut Core, next: u32, op: Other) -> Result<(), Stop>
     ensures { Leaves (other core.old next op) core.old (end_of result) core.new }
 {

@@ -1,5 +1,4 @@
-//! A step in line, for the instructions that programs are mostly made of. Each is found by one jump and has its own arm here. All others are
-//! left to `step`.
+//! A step in line, for the most frequent instructions. One jump finds the arm of an instruction. All other instructions are left to `step`.
 #![tactic(auto, using(crate::proofs::RunLemmas::asks, std::proofs::lemmas::Bool::Decides::nat_tests))]
 
 ghost use Rattle.std.specs.Prelude.{◌≡◌, ◌*◌, ◌%◌, if◌then◌else◌};
@@ -34,14 +33,14 @@ use armv6m_decode::registers::{LR, PC, SP};
 use armv6m_decode::targets::{far, literal, near, short};
 use armv6m_decode::{Alu, Branch, Condition, Decoded, Instr, Many, Memory, Other, decode32};
 
-/// What a quick step came to.
+/// What a quick step did.
 #[derive(Clone, Copy)]
 pub(crate) enum Quick {
-    /// The instruction is done but for the PC: the next one is at this address.
+    /// The instruction is done in all but the PC. The next instruction is at this address.
     Went { pc: u32 },
-    /// The instruction is done, and ended so.
+    /// The instruction is done, and ended this way.
     Done { end: StepEnd },
-    /// Nothing is done.
+    /// Nothing was done.
     Left,
 }
 
@@ -63,7 +62,7 @@ fn at_register(core: &Core, n: usize, offset: u32) -> u32
     core.read_wide(n).wrapping_add(offset)
 }
 
-/// A value into a register, with N and Z.
+/// Writes a value to a register, and sets N and Z.
 #[inline(always)]
 fn put_value(core: &mut Core, d: usize, value: u32)
     ensures { core.new ≡ with_nz (written core.old d value) value }
@@ -72,7 +71,7 @@ fn put_value(core: &mut Core, d: usize, value: u32)
     core.set_nz(value);
 }
 
-/// A shifted value into a register, with N, Z and C.
+/// Writes a shifted value to a register, and sets N, Z and C.
 #[inline(always)]
 fn put_shift(core: &mut Core, d: usize, shifted: Shifted)
     ensures { core.new ≡ with_carry (with_nz (written core.old d shifted.value) shifted.value) shifted.carry }
@@ -82,7 +81,7 @@ fn put_shift(core: &mut Core, d: usize, shifted: Shifted)
     core.set_carry(shifted.carry);
 }
 
-/// A sum into a register, with N, Z, C and V.
+/// Writes a sum to a register, and sets N, Z, C and V.
 #[inline(always)]
 fn put_sum(core: &mut Core, d: usize, sum: Sum)
     ensures { core.new ≡ with_nzcv (written core.old d sum.value) sum }
@@ -316,7 +315,7 @@ fn muls(core: &mut Core, pc: u32, half: u16) -> Quick
     Quick::Went { pc: next }
 }
 
-/// MOV of any two registers; into the PC it is a branch.
+/// MOV of any two registers. MOV to the PC is a branch.
 #[inline(always)]
 fn mov_high(core: &mut Core, pc: u32, half: u16) -> Quick
     ensures { Goes (alu core.old (sum pc 2) (Alu.MovHigh (high_register half) (bits 6 3 half))) core.new result }
@@ -332,7 +331,7 @@ fn mov_high(core: &mut Core, pc: u32, half: u16) -> Quick
     Quick::Went { pc: next }
 }
 
-/// A register, to the word at an address.
+/// Stores a register as a word at an address.
 #[inline(always)]
 #[tactic(auto, using(crate::proofs::RunLemmas::asks), unfolding(crate::specs::MemoryRows::store_word))]
 fn word_from<B: Bus>(core: &Core, bus: &mut B, pc: u32, t: usize, at: u32) -> Quick
@@ -347,7 +346,7 @@ fn word_from<B: Bus>(core: &Core, bus: &mut B, pc: u32, t: usize, at: u32) -> Qu
     }
 }
 
-/// The low halfword of a register, to an address.
+/// Stores the low halfword of a register at an address.
 #[inline(always)]
 #[tactic(auto, using(crate::proofs::RunLemmas::asks), unfolding(crate::specs::MemoryRows::store_half))]
 fn half_from<B: Bus>(core: &Core, bus: &mut B, pc: u32, t: usize, at: u32) -> Quick
@@ -362,7 +361,7 @@ fn half_from<B: Bus>(core: &Core, bus: &mut B, pc: u32, t: usize, at: u32) -> Qu
     }
 }
 
-/// The low byte of a register, to an address.
+/// Stores the low byte of a register at an address.
 #[inline(always)]
 #[tactic(auto, using(crate::proofs::RunLemmas::asks), unfolding(crate::specs::MemoryRows::store_byte))]
 fn byte_from<B: Bus>(core: &Core, bus: &mut B, pc: u32, t: usize, at: u32) -> Quick
@@ -414,7 +413,7 @@ fn ldrh_immediate<B: Bus>(core: &mut Core, bus: &mut B, pc: u32, half: u16) -> Q
     half_into(core, bus, pc, low(half), at)
 }
 
-/// The address of two low registers.
+/// The address that is the sum of two low registers.
 #[inline(always)]
 fn at_registers(core: &Core, half: u16) -> u32
     ensures { result ≡ sum (reg core.now (bits 5 3 half)) (reg core.now (bits 8 6 half)) }
@@ -467,7 +466,7 @@ fn strh_immediate<B: Bus>(core: &Core, bus: &mut B, pc: u32, half: u16) -> Quick
     half_from(core, bus, pc, low(half), at)
 }
 
-/// The address of SP and an immediate.
+/// The address that is the sum of SP and an immediate.
 #[inline(always)]
 fn at_sp(core: &Core, half: u16) -> u32
     ensures { result ≡ sum (reg core.now SP) (4 * bits 7 0 half) }
@@ -537,7 +536,7 @@ fn pop_list<B: Bus>(core: &mut Core, bus: &mut B, pc: u32, half: u16) -> Quick
     Quick::Done { end }
 }
 
-/// Where a branch with a condition goes.
+/// The target of a branch with a condition, or the next instruction if the condition doesn't hold.
 #[inline(always)]
 fn branch_where(taken: bool, pc: u32, half: u16) -> u32
     ensures { result ≡ (if taken then branch_target 8 pc (bits 7 0 half) else sum pc 2) }
@@ -624,7 +623,7 @@ fn exchange<B: Bus>(core: &Core, bus: &B, pc: u32, half: u16) -> Quick
     Quick::Went { pc: to }
 }
 
-/// BL, where its second halfword is at hand.
+/// BL, if the bus has its second halfword at hand.
 #[inline(always)]
 fn call<B: Bus>(core: &mut Core, bus: &B, pc: u32, half: u16) -> Quick
     requires pc { pc ≡ pc_of core.old }
@@ -644,7 +643,7 @@ fn call<B: Bus>(core: &mut Core, bus: &B, pc: u32, half: u16) -> Quick
     }
 }
 
-/// Does the instruction that a halfword at the PC begins, by its arm.
+/// Executes the instruction that begins with a halfword at the PC, by its arm.
 #[inline(always)]
 fn arm<B: Bus>(core: &mut Core, bus: &mut B, pc: u32, half: u16) -> Quick
     requires { pc ≡ pc_of core.old }
@@ -699,7 +698,7 @@ fn arm<B: Bus>(core: &mut Core, bus: &mut B, pc: u32, half: u16) -> Quick
     }
 }
 
-/// Does the instruction at the PC, where it has an arm.
+/// Executes the instruction at the PC, if it has an arm.
 #[inline(always)]
 #[tactic(auto, using(crate::proofs::RunLemmas::asks), unfolding(crate::specs::Step::instruction))]
 fn quick_step<B: Bus>(core: &mut Core, bus: &mut B, pc: u32) -> Quick
@@ -721,7 +720,7 @@ fn step_out<B: Bus>(core: &mut Core, bus: &mut B) -> StepEnd
     step(core, bus)
 }
 
-/// An address, as the PC of a core that need not hold it. The read shows that the core has a register for it.
+/// An address, as the PC of a core that need not hold it. The read shows that the core has a PC register.
 #[inline(always)]
 #[tactic(auto, unfolding(crate::specs::Registers::moved))]
 fn at_hand(core: &Core, pc: u32) -> u32
@@ -732,8 +731,8 @@ fn at_hand(core: &Core, pc: u32) -> u32
     pc
 }
 
-/// Does the instruction at an address as `step` does that at the PC, for a caller that has the PC at hand: the core need not hold it, neither
-/// before nor after.
+/// Executes the instruction at an address as `step` executes the one at the PC. The caller keeps the PC: the core need not hold it before
+/// or after.
 #[inline(always)]
 pub fn step_at<B: Bus>(core: &mut Core, bus: &mut B, pc: &mut u32) -> StepEnd
     requires { Reads core.old pc.old }

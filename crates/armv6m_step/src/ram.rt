@@ -1,4 +1,4 @@
-//! Loads and stores of bytes at the addresses from a base on, little-endian. Each is done where all its bytes lie there.
+//! Loads and stores of bytes at the addresses from a base on, little-endian. An access is done only if all its bytes are there.
 #![tactic(auto, using(std::proofs::lemmas::Bool::Decides::nat_tests))]
 
 ghost use Rattle.std.specs.Prelude.{◌≡◌, ◌≤◌, ◌<◌, ◌+◌, ◌^◌, true, false, Some, None, IfSome, if◌then◌else◌};
@@ -20,7 +20,7 @@ fn place(base: u32, len: usize, at: u32, width: u32) -> Option<usize>
     Some(i)
 }
 
-/// The byte at an address, and `None` where it isn't among the bytes from the base on.
+/// The byte at an address, or `None` if it isn't among the bytes from the base on.
 pub fn load8(base: u32, bytes: &[u8], at: u32) -> Option<u32>
     ensures value { result ≡ loaded_from (ram_at base bytes.now) 1 at }
     ensures fits { IfSome result (λ v. v < 2 ^ 8) }
@@ -29,7 +29,7 @@ pub fn load8(base: u32, bytes: &[u8], at: u32) -> Option<u32>
     Some(u32::from(bytes[i]))
 }
 
-/// The halfword at an address, and `None` where its two bytes aren't all there.
+/// The halfword at an address, or `None` if one of its two bytes isn't there.
 pub fn load16(base: u32, bytes: &[u8], at: u32) -> Option<u32>
     ensures value { result ≡ loaded_from (ram_at base bytes.now) 2 at }
     ensures fits { IfSome result (λ v. v < 2 ^ 16) }
@@ -38,7 +38,7 @@ pub fn load16(base: u32, bytes: &[u8], at: u32) -> Option<u32>
     Some(u32::from(bytes[i]) + 0x100 * u32::from(bytes[i + 1]))
 }
 
-/// The word at an address, and `None` where its four bytes aren't all there.
+/// The word at an address, or `None` if one of its four bytes isn't there.
 pub fn load32(base: u32, bytes: &[u8], at: u32) -> Option<u32>
     ensures { result ≡ loaded_from (ram_at base bytes.now) 4 at }
 {
@@ -51,7 +51,7 @@ pub fn load32(base: u32, bytes: &[u8], at: u32) -> Option<u32>
     )
 }
 
-/// Stores a byte, and says whether it lies among the bytes from the base on. Where it doesn't, nothing is changed.
+/// Stores a byte, and answers whether it is among the bytes from the base on. If not, nothing changes.
 pub fn store8(base: u32, bytes: &mut [u8], at: u32, value: u32) -> bool
     requires { value < 2 ^ 8 }
     ensures stored { stored_in (ram_at base bytes.old) 1 at value ≡ (if result then Some bytes.new else None) }
@@ -64,7 +64,7 @@ pub fn store8(base: u32, bytes: &mut [u8], at: u32, value: u32) -> bool
     true
 }
 
-/// Stores a halfword, and says whether its two bytes are all there. Where they aren't, nothing is changed.
+/// Stores a halfword, and answers whether both its bytes are there. If not, nothing changes.
 pub fn store16(base: u32, bytes: &mut [u8], at: u32, value: u32) -> bool
     requires { value < 2 ^ 16 }
     ensures stored { stored_in (ram_at base bytes.old) 2 at value ≡ (if result then Some bytes.new else None) }
@@ -78,7 +78,7 @@ pub fn store16(base: u32, bytes: &mut [u8], at: u32, value: u32) -> bool
     true
 }
 
-/// Stores a word, and says whether its four bytes are all there. Where they aren't, nothing is changed.
+/// Stores a word, and answers whether all its four bytes are there. If not, nothing changes.
 pub fn store32(base: u32, bytes: &mut [u8], at: u32, value: u32) -> bool
     ensures stored { stored_in (ram_at base bytes.old) 4 at value ≡ (if result then Some bytes.new else None) }
     ensures kept { result ≡ false → bytes.new ≡ bytes.old }

@@ -32,7 +32,7 @@ get_or-stretch from n xs i below inside =
 length-front : (n : ℕ) (xs : List ℕ) → n ≤ length xs → length (take n xs) ≡ n
 length-front n xs le = omega (arith, length-take n xs)
 
--- a front of f, and then a stretch of xs
+-- a list that begins as f and goes on with a stretch of xs
 module _ (at n : ℕ) (f xs : List ℕ) (le : at ≤ length f) where
   joined : List ℕ
   joined = take at f ++ stretch at n xs
@@ -72,7 +72,7 @@ module _ (k : Kept) (read : IsLeft k k.file) (enough : k.least ≤ length k.sync
     abbrev Origin : List ℕ → Type 0
     Origin f = (d : List ℕ) × IsLeft k d × Torn at (length bytes) d f
 
-    -- it ends before the range
+    -- a file that ends before the range
     short : (f : List ℕ) → IsLeft (after_write at bytes k) f → length f ≤ at → Origin f
     short f left ends = (
       f,
@@ -84,7 +84,7 @@ module _ (k : Kept) (read : IsLeft k k.file) (enough : k.least ≤ length k.sync
       record { before = refl; after = refl; no_shorter = omega arith; no_longer = omega arith },
     )
 
-    -- it ends in the range
+    -- a file that ends within the range
     middle : (f : List ℕ) → IsLeft (after_write at bytes k) f → at < length f → length f ≤ at + length bytes → Origin f
     middle f left from to =
         let m = k.least - at in

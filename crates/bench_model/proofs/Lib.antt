@@ -1,4 +1,4 @@
--- Counts of faults, moments of calls in turn, and what each call leaves of a bench in memory and its record.
+-- Counts of faults, moments of calls in turn, and what each call does to a bench in memory and to its record.
 pub mod CountLemmas
 pub mod Moments
 pub mod RecordLemmas

@@ -1,4 +1,4 @@
--- A bench in memory with an empty record. A new bench, and one after a loss of the power, have one.
+-- A bench in memory with an empty record: a new bench, or one after a loss of power.
 use Rattle.std.proofs.Common.{◌≡◌, ◌∙◌, subst, sym, refl, ℕ, List, [], None, arith}
 use Rattle.bench_model.specs.Record.{Recorded, at_rest}
 use Rattle.bench_model.specs.Memory.{memory_state, InStep}
@@ -6,7 +6,7 @@ use Rattle.bench_model.specs.Loss.{IsAtRest}
 use Rattle.bench_model.specs.Kept.{IsLeft, all_synced}
 use Rattle.bench_model.proofs.LeftLemmas.{read_synced, synced_only}
 
--- a stop leaves it as it is
+-- a stop of a bench with an empty record leaves it as it is
 pub rests : (file cells made_file made_cells : List ℕ) (store_faults device_faults : ℕ) (r : Recorded) (used room longest : ℕ)
     → made_file ≡ file → made_cells ≡ cells
     → r ≡ record { made = at_rest made_file made_cells; events = []; used = used; room = room; longest = longest }

@@ -1,4 +1,4 @@
--- Marks of the bytes that are pending. A record knows by them which bytes a stop may lose.
+-- Marks of the pending bytes. By them a record knows which bytes a stop may lose.
 use Rattle.std.proofs.Common.{◌≡◌, ◌⊎◌, ⊎_elim, inl, inr, ◌<◌, ◌≤◌, ◌+◌, ◌-◌, ◌∙◌, ap, subst, sym, refl, ℕ, List, ◌∷◌, ◌++◌, Bool, true, false, length, get_or}
 use Rattle.std.proofs.Common.{take, drop, max, replicate, arith, length-append, length-take, length-drop}
 use Rattle.std.proofs.lemmas.List.{get_or-take, get_or-drop, get_or_append_left, get_or-append_right, get_or-replicate, get_or_past, length-replicate}

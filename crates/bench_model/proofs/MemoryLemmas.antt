@@ -1,4 +1,4 @@
--- What each recorded call does to a bench in memory. Each call of `MemoryBench` keeps what the trait asks of it by its lemma here.
+-- What each recorded call does to a bench in memory. Each call of `MemoryBench` meets the trait's clauses by its lemma here.
 use Rattle.std.proofs.Common.{◌≡◌, ◌↔◌, ◌<◌, ◌≤◌, ◌+◌, ◌∙◌, ap, subst, sym, refl, ℕ, List, ◌++◌, length, take, drop, replicate, Option, Some, None, arith}
 use Rattle.std.proofs.Common.{◌⊎◌, inl, inr, Bool, true, false, append_assoc, length-append, length-take, length-drop}
 use Rattle.std.proofs.lemmas.List.{take_at, drop_at, length-replicate}
@@ -17,7 +17,7 @@ use Rattle.bench_model.specs.Memory.{InStep}
 use Rattle.bench_model.proofs.RecordLemmas.{replay-push, half_now, noted_leaves, noted_stays}
 use Rattle.bench_model.proofs.LeftLemmas.{torn, cut_back, read_write, read_cut, read_synced, synced_only}
 
--- what is recorded fits what is there, after each call
+-- the record agrees with the contents after each call
 module _ (h : Held) (file cells : List ℕ) (op : Option (ℕ × ℕ)) (s : InStep h file cells op) where
   pub read : IsLeft h.kept h.kept.file
   read = subst (λ (f : List ℕ). IsLeft h.kept f) (sym s.same_file) s.left
@@ -71,7 +71,7 @@ module _ (h : Held) (file cells : List ℕ) (op : Option (ℕ × ℕ)) (s : InSt
     in_range = λ range is. let e : (at, len) ≡ range = cc in subst (λ (r : ℕ × ℕ). (0 < r.1) × (r.0 + r.1 ≤ length cells)) e (some, le);
   }
 
-  -- the operation ends with these cells
+  -- an operation that ends with these cells
   pub step_ended : (h' : Held) (new : List ℕ) → h'.kept ≡ h.kept → h'.cells ≡ new → h'.operation ≡ None → InStep h' file new None
   step_ended h' new same_kept same_cells none = record {
     same_file = ap (λ (k : Kept). k.file) same_kept ∙ s.same_file;
@@ -109,7 +109,7 @@ module _ (h : Held) (file cells : List ℕ) (op : Option (ℕ × ℕ)) (s : InSt
         (subst (λ (o : Option (ℕ × ℕ)). SameOutside o cells x) (sym s.same_operation) at)),
   )
 
--- The cells with other bytes in a range.
+-- The cells after other bytes were written over a range.
 module _ (cells : List ℕ) (at len : ℕ) (within : at + len ≤ length cells) (bytes : List ℕ) (long : length bytes ≡ len) where
   front-long : length (take at cells) ≡ at
   front-long = omega (arith, length-take at cells, within)
@@ -139,7 +139,7 @@ pub same_outside_all : (op : Option (ℕ × ℕ)) (cells x : List ℕ) → x ≡
 same_outside_all None cells x is = is
 same_outside_all (Some range) cells x is = (ap length is, ap (λ (l : List ℕ). take range.0 l) is, ap (λ (l : List ℕ). drop (range.0 + range.1) l) is)
 
--- the cells once an operation is broken off
+-- the cells after an operation is broken off
 pub only_broken : (byte : Option ℕ) (at len : ℕ) (cells : List ℕ) → at + len ≤ length cells →
     SameOutside (Some (at, len)) cells (broken byte (Some (at, len)) cells)
 only_broken None at len cells inside = same_outside_all (Some (at, len)) cells cells refl
@@ -149,13 +149,13 @@ pub length-broken : (byte : Option ℕ) (at len : ℕ) (cells : List ℕ) → at
 length-broken None at len cells inside = refl
 length-broken (Some value) at len cells inside = length-in_range cells at len inside (replicate len value) (length-replicate len value)
 
--- a call that went through counts no fault
+-- a call that succeeded counts no fault
 pub went_cause : {T E : Type 0} (value : T) (n new : Numbered) → new ≡ went n → HasCause {T = T} {E = E} n.faults new.faults (Ok value)
 went_cause value n new is =
     let same : new.faults ≡ n.faults = ap (λ (k : Numbered). k.faults) is in
     record { later = omega (arith, same); on_fault = λ fault. absurd (false≢true fault); on_ok = λ ok. same }
 
--- a call failed because its number is to fail, or for want of room
+-- a call failed because its number is to fail, or because there is no room
 pub why_failed : (n : Numbered) {room : Bool} {Room : Type 0} → (Room → room ≡ true) → (room ≡ false) ⊎ IsDue n → IsDue n ⊎ (Room → ⊥)
 why_failed n told (inl full) = inr (λ there. false≢true (sym full ∙ told there))
 why_failed n told (inr due) = inl due

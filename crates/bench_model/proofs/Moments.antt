@@ -1,4 +1,4 @@
--- How a run of calls goes on, for one half and for both. Every crate that calls a bench twice joins what a stop may leave by them.
+-- How runs of calls are joined, for one half and for both. Crates that call a bench twice join by these lemmas what a stop may leave.
 use Rattle.std.proofs.Common.{◌<◌, ◌≡◌, ◌↔◌, ◌+◌, ⊎_elim, ◌≤◌, ◌∙◌, subst, refl, ℕ, List, Bool, arith}
 use Rattle.std.proofs.lemmas.Bool.{cases_lt}
 use Rattle.bench_model.specs.History.{Half, left, GoesOn, Leaves, AddsNothing, Stays, LeftOnly}
@@ -6,7 +6,7 @@ use Rattle.bench_model.specs.State.{BenchState, file_half, cells_half, LeftSince
 use Rattle.bench_model.specs.Calls.{Follows, FileStays, CellsStay, OnlyReads}
 use Rattle.bench_model.specs.Pairs.{PairsLeave, PairsInTurn}
 
--- Time.
+-- Moments that have passed.
 
 pub goes_here : (h : Half) → GoesOn h h
 goes_here h = record { later = omega arith; past = λ k x le. ((λ at. at), (λ at. at)) }
@@ -25,11 +25,11 @@ at_now h k x from to at = let is : k ≡ h.now = omega arith in subst (λ (n : �
 
 -- One half, where P holds of all that a stop leaves.
 
--- before the first call
+-- before the first call a stop leaves only what has P
 pub leaves_here : (h : Half) (P : List ℕ → Type 0) → ((x : List ℕ) → left h x → P x) → Leaves h h P
 leaves_here h P here = record { goes_on = goes_here h; each = λ k x from to at. here x (at_now h k x from to at) }
 
--- one call more
+-- after one call more a stop still leaves only what has P
 pub leaves_then : {a b c : Half} (P : List ℕ → Type 0) → Leaves a b P → Leaves b c P → Leaves a c P
 leaves_then {a} {b} {c} P one two = record {
   goes_on = goes_then one.goes_on two.goes_on;
@@ -39,7 +39,7 @@ leaves_then {a} {b} {c} P one two = record {
       (cases_lt k b.now);
 }
 
--- what has P has Q
+-- if P implies Q, a stop leaves only what has Q
 pub leaves_as : {a b : Half} (P Q : List ℕ → Type 0) → ((x : List ℕ) → P x → Q x) → Leaves a b P → Leaves a b Q
 leaves_as P Q to_q one = record { goes_on = one.goes_on; each = λ k x from to at. to_q x (one.each k x from to at) }
 
@@ -47,7 +47,7 @@ leaves_as P Q to_q one = record { goes_on = one.goes_on; each = λ k x from to a
 pub leaves_left : {a b : Half} (P : List ℕ → Type 0) → Leaves a b P → (x : List ℕ) → left b x → P x
 leaves_left {a} {b} P one x at = one.each b.now x one.goes_on.later (omega arith) at
 
--- a call that steps from the one list that a stop could leave before it
+-- a call from a half that leaves one list: a stop leaves what a step makes of that list
 pub leaves_step : {a b : Half} (step : List ℕ → List ℕ → Type 0) (P : List ℕ → Type 0) (is x : List ℕ)
     → LeftOnly is a → is ≡ x → ((y : List ℕ) → step x y → P y) → Leaves a b (Follows step a) → Leaves a b P
 leaves_step {a} step P is x only same has one =
@@ -58,7 +58,7 @@ leaves_step {a} step P is x only same has one =
 pub adds_nothing_here : (h : Half) → AddsNothing h h
 adds_nothing_here h = leaves_here h (left h) (λ x at. at)
 
--- a call that adds nothing comes after one that left only what has P
+-- a call that adds nothing, after calls that leave only what has P
 pub leaves_then_nothing : {a b c : Half} (P : List ℕ → Type 0) → Leaves a b P → AddsNothing b c → Leaves a c P
 leaves_then_nothing {a} {b} P one two = leaves_then P one (leaves_as (left b) P (leaves_left P one) two)
 
@@ -107,7 +107,7 @@ stays_adds_nothing {a} one = stays_leaves (left a) (λ x at. at) one
 pub only_then : {a b : Half} (x : List ℕ) → Stays a b → LeftOnly x a → LeftOnly x b
 only_then x one only y at = only y ((stays_left one y).0 at)
 
--- The half of a whole bench that a run of calls leaves alone.
+-- The half of a bench that a run of calls doesn't touch.
 
 pub file_stays_here : (b : BenchState) → FileStays b b
 file_stays_here b = record { file = refl; faults = refl; half = stays_here (file_half b) }
@@ -143,12 +143,12 @@ only_reads_then one two = record {
 
 -- Both halves.
 
--- where the files have P and the cells have Q at each moment, each pair has both
+-- if the files have P and the cells have Q at each moment, each pair has both
 pub pairs_have : (a b : BenchState) (P Q : List ℕ → Type 0) → Leaves (file_half a) (file_half b) P → Leaves (cells_half a) (cells_half b) Q
     → (file cells : List ℕ) → LeftSince b a.moment file cells → P file × Q cells
 pairs_have a b P Q files cells f c (k, from, to, f_at, c_at) = (files.each k f from to f_at, cells.each k c from to c_at)
 
--- a piece of a run in which each half is known by itself
+-- a piece of a run where each half is known by itself
 pub pairs_of : {a b : BenchState} (P Q : List ℕ → Type 0) (R : List ℕ → List ℕ → Type 0) → Leaves (file_half a) (file_half b) P →
     Leaves (cells_half a) (cells_half b) Q
     → ((f c : List ℕ) → P f → Q c → R f c) → PairsLeave a b R
@@ -158,7 +158,7 @@ pairs_of P Q R files cells both = record {
   each = λ k f c from to f_at c_at. both f c (files.each k f from to f_at) (cells.each k c from to c_at);
 }
 
--- the next piece
+-- two pieces of a run, one after the other
 pub pairs_then : {a b c : BenchState} (R : List ℕ → List ℕ → Type 0) → PairsLeave a b R → PairsLeave b c R → PairsLeave a c R
 pairs_then {a} {b} {c} R one two = record {
   files = goes_then one.files two.files;
@@ -170,7 +170,7 @@ pairs_then {a} {b} {c} R one two = record {
       (cases_lt k b.moment);
 }
 
--- pairs that have R have S
+-- if R implies S, each pair has S
 pub pairs_as : {a b : BenchState} (R S : List ℕ → List ℕ → Type 0) → ((f c : List ℕ) → R f c → S f c) → PairsLeave a b R → PairsLeave a b S
 pairs_as R S to_s one = record {
   files = one.files;
@@ -192,7 +192,7 @@ in_turn First Second one two = record {
   from = λ k f x from to f_at x_at. two.each k f x from to f_at x_at;
 }
 
--- a run that never comes to its turn
+-- a run that doesn't reach its turn
 pub never : {a b : BenchState} (First Second : List ℕ → List ℕ → Type 0) → PairsLeave a b First → PairsInTurn a b (b.moment + 1) First Second
 never First Second one = record {
   started = omega (arith, one.files.later);

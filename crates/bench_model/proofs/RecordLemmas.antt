@@ -1,4 +1,4 @@
--- What one call more does to a record. `MemoryLemmas` has them of each kind of call.
+-- What one call more does to a record. `MemoryLemmas` has the lemmas of each kind of call.
 use Rattle.std.proofs.Common.{◌≡◌, ◌↔◌, ⊎_elim, ◌<◌, ◌≤◌, ◌+◌, ◌∙◌, ap, subst, sym, refl, ℕ, List, [], ◌∷◌, ◌++◌, length, take, drop, arith, length-append}
 use Rattle.std.proofs.Common.{length-drop}
 use Rattle.std.proofs.lemmas.List.{take-append-le, drop-append-le, take_all}
@@ -59,7 +59,7 @@ module _ (cs cs' : List Change) (c : Change) (bytes bytes' bs : List ℕ) (used 
   pub units-after : length cs' + length bytes' ≡ length cs + length bytes + (1 + length bs)
   units-after = omega (arith, ap length cs-is, length-append cs (c ∷ []), ap length bytes-is, length-append bytes bs)
 
--- the record of it
+-- the record after one call more
 pub recorded : (made : Held) (es : List Event) (used n room longest : ℕ) (e : Event) (es' : List Event) (r : Recorded) → es' ≡ es ++ e ∷ [] → handed_of e ≡ n
     → record { made = made; events = es; used = used; room = room; longest = longest } ≡ r
     → record { made = made; events = es'; used = used + (1 + n); room = room; longest = longest } ≡ noted e r
@@ -68,7 +68,7 @@ recorded made es used n room longest e es' r more handed is =
     ∙ ap (λ (m : ℕ). record { made = made; events = es ++ e ∷ []; used = used + (1 + m); room = room; longest = longest }) (sym handed)
     ∙ ap (λ (q : Recorded). noted e q) is
 
--- Of a half of the bench: what a stop may leave now is what it leaves at the last moment.
+-- What a stop may leave of a half now is what it leaves at the last moment.
 module _ (L : Held → List ℕ → Type 0) (r : Recorded) where
   pub half_now : (x : List ℕ) → L (held_at (length r.events) r) x ↔ L (held_now r) x
   half_now x =

@@ -1,4 +1,4 @@
--- An algorithm whose table is filled keeps its duties.
+-- An algorithm with a filled table keeps its duties.
 use Rattle.std.proofs.Common.{◌≡◌, ◌<◌, ◌≤◌, ◌+◌, ◌-◌, ◌^◌, ◌⊎◌, ℕ, Bool, true, false, List, [], length, replicate, slice_index, get_or, All, Option, Some}
 use Rattle.std.proofs.Common.{None, refl, sym}
 use Rattle.std.proofs.Common.{ap, subst, ◌∙◌, ⊎_elim, inl, inr, arith}
@@ -39,7 +39,7 @@ use Rattle.duty_proofs.proofs.NameLemmas.{names_long}
 use Rattle.duty_proofs.proofs.StartLemmas.{name_at}
 use Rattle.duty_proofs.proofs.LeadLemmas.{check_leads}
 
--- marks between calls don't look at the cells at hand
+-- the marks between calls don't depend on the cells at hand
 over_fits : (st : State) (cells : List ℕ) (x : World) → IsBetween st → length cells ≡ length st.world.cells → FitsMarks st.marks st.world x →
     FitsMarks st.marks (over st.world cells) x
 over_fits st cells x is many fits = record {
@@ -328,6 +328,6 @@ module _ (b : BoardShown) (a : AlgorithmShown) (region : ℕ) (d : Decided b a r
     )) small,
   )
 
-  -- it keeps its duties
+  -- an algorithm with a filled table keeps its duties
   pub decided_serves : Serves b a region
   decided_serves = serves b a region Between each_leads page_bytes

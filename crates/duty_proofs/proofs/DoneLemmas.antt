@@ -1,4 +1,4 @@
--- From a run that came back after n steps to a call that is done.
+-- From a run that returned after n steps to a call that is done.
 use Rattle.std.proofs.Common.{◌≡◌, ◌+◌, ◌*◌, ◌/◌, ◌%◌, ◌<◌, ◌≤◌, ◌⊎◌, ℕ, Option, Some, None, length, slice_index, refl, sym, ap, subst, ap₂, ◌∙◌, inl, inr}
 use Rattle.std.proofs.Common.{⊎_elim, arith, eq-eqb}
 use Rattle.std.proofs.lemmas.Bool.{cases_lt}
@@ -33,7 +33,7 @@ returns_at back fuel p n here = rw (eq-eqb _ _ here) refl
 parity : (m : ℕ) → (m ≡ 2 * (m / 2)) ⊎ (m ≡ 2 * (m / 2) + 1)
 parity m = ⊎_elim (λ (h : m % 2 < 1). inl (omega arith)) (λ (h : 1 ≤ m % 2). inr (omega arith)) (cases_lt (m % 2) 1)
 
--- at each of its points an open operation lies in the place
+-- at each point of a run an open operation is in the place
 inside_points : (back : ℕ) (r : Option (ℕ × ℕ)) (n : ℕ) (p : Point) → AllGo back r p n → state_op (whole p n).world.state ≡ None →
     (m : ℕ) → m ≤ 2 * n → OpensIn r (state_op (point p m).world.state)
 inside_points back r n p all idle m within = ⊎_elim

@@ -1,4 +1,4 @@
--- What a call that is done leaves of the cells: by its marks in its place, and nothing else.
+-- What a done call leaves of the cells: in its place by its marks, and all other cells as they were.
 use Rattle.std.proofs.Common.{◌≡◌, ◌<◌, ◌≤◌, ◌+◌, ◌-◌, ◌⊎◌, ℕ, List, length, take, drop, slice_index, get_or, Option, Some, None, refl, sym, ap, subst, ◌∙◌}
 use Rattle.std.proofs.Common.{⊎_elim, inl, inr, arith, length-take, length-drop, get_or-take, get_or-drop, take-take, drop-drop}
 use Rattle.std.proofs.lemmas.Bool.{cases_lt}
@@ -24,7 +24,7 @@ use Rattle.duty_proofs.specs.declared.cells.CellMark.TheVariants.{Holds as Marke
 use Rattle.duty_proofs.specs.TargetMarks.{CellsAgree, CellSays}
 use Rattle.duty_proofs.proofs.DoneLemmas.{IsDone}
 
--- ---- outside its place
+-- ---- outside the place of a call
 
 opens_some : (place : ℕ × ℕ) (operation : Option (ℕ × ℕ)) → OpensIn (Some place) operation → LiesIn place operation
 opens_some place None opens = tt
@@ -60,7 +60,7 @@ after_last : (s : Setup) (w : World) (r : Request) → after s w r ≡ (point (p
 unfolding after
 after_last s w r = refl
 
--- a call that is done leaves what lies outside its place
+-- a done call leaves all cells outside its place
 pub done_local : (s : Setup) (w w' : World) (q : Request) (place : Option (ℕ × ℕ)) → FitsIn place (length w.cells) → IsDone s w q place w' →
     SameOutside place w.cells (after s w q).cells
 done_local s w w' q place fits call =
@@ -133,7 +133,7 @@ module _ (site : Site) (r : Range) (before after' : List ℕ) (ordered : r.start
         (cases_lt i site.layout.size),
   )
 
--- ---- by the marks of its place
+-- ---- by the marks of the place
 
 -- each cell of a place has a mark
 abbrev pub AllAre : (ℕ → CellMark) → ℕ → List CellMark → Type 0

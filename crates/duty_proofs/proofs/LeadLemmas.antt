@@ -38,7 +38,7 @@ module _ (p : Pages) where
   no_runs k None (Some o') e runs = absurd runs
   no_runs k (Some o) o' e runs = cc
 
--- what marks say between calls they say for every page
+-- what the marks between calls say of a page they say of every page
 pub with_page : (p : Pages) (m : TargetMarks) (w x : World) → m.state.operation ≡ None → ((k : ℕ) →
     Says no_page (get_or m.ram k Any) (slice_index w.ram k) (slice_index x.ram k)
     → Says p (get_or m.ram k Any) (slice_index w.ram k) (slice_index x.ram k)) → m.cells ≡ [] → m.from ≡ 0 → FitsMarks m w x → TargetAgrees p m w x
@@ -55,7 +55,7 @@ with_page p m w x idle plain none zero' fits = record {
       (record { here = omega arith; there = fits.cells.there; says = λ k. tt }));
 }
 
--- the call of another run, from a target that fits: it is done, and the marks hold of what it leaves
+-- the call of another run, from a target that fits the marks: the call is done, and the last marks hold
 record Followed (p : Pages) (s : Setup) (place : Option (ℕ × ℕ)) (w x : World) (c : Call) (n : ℕ) (r : Marks TargetMarks) : Type 0 where
   done : IsDone s x (asked c p.there) place (whole (first_point s x (asked c p.there)) n).world
   bus : TargetAgrees p r.bus (whole (first_point s w (asked c p.here)) n).world (whole (first_point s x (asked c p.there)) n).world
@@ -74,18 +74,18 @@ followed p bytes s place m w x c from cells n r same ran fits marked =
       bus = run.now.bus;
     }
 
--- the target after it fits the marks without their names
+-- the target after a call fits the marks without the page
 left_fits : (p : Pages) (s : Setup) (place : Option (ℕ × ℕ)) (w x : World) (c : Call) (n : ℕ) (r : Marks TargetMarks) → r.bus.state.operation ≡ None →
     Followed p s place w x c n r → FitsMarks (forgotten r.bus) (whole (first_point s w (asked c p.here)) n).world (after s x (asked c p.there))
 left_fits p s place w x c n r idle followed =
     subst (λ (y : World). FitsMarks (forgotten r.bus) (whole (first_point s w (asked c p.here)) n).world y) (sym followed.done.leaves)
     (forgotten_agrees p no_page r.bus _ _ idle followed.bus)
 
--- the bytes of no page
+-- the empty page has bytes
 none_bytes : ArePages no_page
 none_bytes = record { here = λ i. omega arith; there = λ i. omega arith }
 
--- Init, UnInit
+-- a call of Init or UnInit keeps its duty and leads on
 pub quiet_leads : (s : Setup) (site : Site) (m : TargetMarks) (w x : World) (c : Call) (n : ℕ) (r : Marks TargetMarks) → Ran s None m w c [] 0 [] n r →
     FitsMarks m w x
     → Leads s site x (Quiet (asked c [])) (λ y. FitsMarks (forgotten r.bus) (whole (first_point s w (asked c [])) n).world y)
@@ -94,7 +94,7 @@ quiet_leads s site m w x c n r ran fits =
     followed no_page none_bytes s None m w x c 0 [] n r refl ran fits (record { here = omega arith; there = fits.cells.there; says = λ k. tt }) in
     record { keeps = quiet_kept s site x _ (asked c []) there.done; then' = left_fits no_page s None w x c n r ran.back.none there }
 
--- Verify
+-- a call of Verify keeps its duty and leads on
 pub check_leads : (p : Pages) → ArePages p → (s : Setup) (site : Site) (m : TargetMarks) (w x : World) (c : Call) (from n : ℕ) (cells : List CellMark)
     (r : Marks TargetMarks) →
     length p.there ≡ length p.here → Ran s None m w c p.here from cells n r → CellsAgree p from cells w.cells x.cells → TargetAgrees p m w x
@@ -103,7 +103,7 @@ check_leads p bytes s site m w x c from n cells r same ran marked fits =
     let there : Followed p s None w x c n r = followed p bytes s None m w x c from cells n r same ran fits marked in
     record { keeps = quiet_kept s site x _ (asked c p.there) there.done; then' = left_fits p s None w x c n r ran.back.none there }
 
--- EraseSector
+-- a call of EraseSector keeps its duty and leads on
 pub sector_leads : (s : Setup) (site : Site) (m : TargetMarks) (w x : World) (k n : ℕ) (r : Marks TargetMarks) (c : Call) (cells : List CellMark) →
     IsGeometry site.layout →
     site.start + site.layout.size ≤ length x.cells → k < length site.layout.sectors → s.algorithm.device.empty ≡ 0xFF
@@ -129,7 +129,7 @@ sector_leads s site m w x k n r c cells good room below empty is ran marked from
           (left_fits no_page s place w x c n r ran.back.none there);
     }
 
--- EraseChip
+-- a call of EraseChip keeps its duty and leads on
 pub chip_leads : (s : Setup) (site : Site) (m : TargetMarks) (w x : World) (n : ℕ) (r : Marks TargetMarks) (cells : List CellMark) → IsGeometry site.layout →
     site.start + site.layout.size ≤ length x.cells → 0 < site.layout.size → s.algorithm.device.empty ≡ 0xFF
     → Ran s (place_of site (Acting EraseChip)) m w call.EraseChip [] (site.start + 0) cells n r
@@ -151,7 +151,7 @@ chip_leads s site m w x n r cells good room some empty ran marked from all fits 
       then' = left_fits no_page s place w x call.EraseChip n r ran.back.none there;
     }
 
--- ProgramPage
+-- a call of ProgramPage keeps its duty and leads on
 pub page_leads : (p : Pages) → ArePages p → (s : Setup) (site : Site) (m : TargetMarks) (w x : World) (k n : ℕ) (r : Marks TargetMarks) (c : Call)
     (cells : List CellMark) →
     IsGeometry site.layout → site.start + site.layout.size ≤ length x.cells → k < length site.layout.pages
@@ -179,7 +179,7 @@ page_leads p bytes s site m w x k n r c cells good room below same long blank is
           (left_fits p s place w x c n r ran.back.none there);
     }
 
--- marks that say less
+-- a mark that says less still holds
 weak_says : (a b : Mark) (v v' u : ℕ) (known : Bool) → is_known b ≡ known → (b ≡ Known → (a ≡ Known) × (v ≡ v')) → (is_known b ≡ false → b ≡ Any) →
     Says no_page a v u → Says no_page b v' u
 weak_says a Known v v' u known e strong plain says =

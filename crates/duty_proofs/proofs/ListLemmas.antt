@@ -1,4 +1,4 @@
--- An algorithm each of whose calls leads on keeps its duties in every list.
+-- An algorithm keeps its duties in every list if each of its calls leads on.
 use Rattle.std.proofs.Common.{◌≡◌, ◌<◌, ◌+◌, ◌^◌, ℕ, Bool, true, false, List, [], ◌∷◌, ◌++◌, map, length, All, IsSome, refl, sym, subst, inl, inr}
 use Rattle.std.proofs.Common.{◌∙◌, arith}
 use Rattle.flm_descriptor.specs.Shown.{Shown as AlgorithmShown}

@@ -1,4 +1,4 @@
--- The other run goes as the run at hand does, and comes back where that does.
+-- Another run makes the same steps as the run at hand, and returns when that returns.
 use Rattle.std.proofs.Common.{◌≡◌, ◌+◌, ◌<◌, ◌≤◌, ℕ, true, nat_eq, Option, Some, None, length, slice_index, sym, ap, subst, ◌∙◌}
 use Rattle.std.proofs.Common.{⊎_elim, arith}
 use Rattle.std.proofs.lemmas.Bool.{cases_lt}
@@ -37,7 +37,7 @@ module _ {M : Type 0} (p : Pages) (bytes : ArePages p) (Agrees : M → World →
       r' marked went in
       (next.went, record { core = next.core; bus = next.bus })
 
-  -- what is seen of the run at hand at a step
+  -- what a step of the run at hand shows
   pub record StepGoes (back : ℕ) (place : Option (ℕ × ℕ)) (x : Point) (r r' : Marks M) : Type 0 where
     pub half : ℕ
     pub second : ℕ
@@ -46,7 +46,7 @@ module _ {M : Type 0} (p : Pages) (bytes : ArePages p) (Agrees : M → World →
     pub counter : is_known (mark_at r.core PC) ≡ true
     pub goes : GoesOn back place x
 
-  -- the marks after its tick
+  -- the marks after the tick of a step
   abbrev pub after_tick : Marks M → Point → Marks M
   after_tick r' x = record { core = r'.core; bus = tick r'.bus (instructed x).world }
 

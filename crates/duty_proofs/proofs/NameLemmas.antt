@@ -1,4 +1,4 @@
--- Names are put one by one.
+-- Marks of the page are set one by one.
 use Rattle.std.proofs.Common.{◌≡◌, ◌<◌, ◌+◌, ℕ, zero, suc, List, [], ◌∷◌, ◌++◌, length, take, drop, get_or, slice_set, refl, sym, ap, ◌∙◌, arith}
 use Rattle.std.proofs.Common.{drop-cons, append_assoc, length-append, length-take, take-append-drop, append-nil}
 use Rattle.std.proofs.lemmas.List.{set_at}

@@ -1,4 +1,4 @@
--- A call begins with marks that hold, and what it leaves between calls holds for every page.
+-- The marks at the beginning of a call hold, and the marks that it leaves between calls hold for every page.
 use Rattle.std.proofs.Common.{◌≡◌, ◌<◌, ◌≤◌, ◌+◌, ◌-◌, ℕ, zero, suc, List, [], ◌∷◌, map, length, replicate, slice_index, get_or}
 use Rattle.std.proofs.Common.{Option, Some, None, refl, sym, ap, subst, ◌∙◌, ⊎_elim, arith}
 use Rattle.std.proofs.lemmas.Bool.{cases_lt}
@@ -21,7 +21,7 @@ use Rattle.duty_proofs.specs.Starts.{all_known, names, started, unnamed, forgott
 use Rattle.duty_proofs.proofs.NameLemmas.{names_long}
 use Rattle.duty_proofs.proofs.LaidLemmas.{laid_len, laid_before, laid_in, laid_after}
 
--- the frame
+-- the frame of a call
 
 known_or_any : (p : Pages) (k v : ℕ) → Says p (get_or (replicate 16 Known) k Any) v v
 known_or_any p k v = ⊎_elim
@@ -44,7 +44,7 @@ frame_agrees p regs long = record {
   primask = λ h. refl;
 }
 
--- the buffer
+-- the buffer of a call
 
 pub name_at : (i n j : ℕ) (d : Mark) → j < n → get_or (names i n) j d ≡ Page 1 (i + j)
 unfolding names
@@ -97,7 +97,7 @@ buffer_agrees p at ms ram ram' agree same fits =
           (cases_lt j at);
     }
 
--- the first points of a call at hand and of another one, with bytes of the same number
+-- the first points of a call at hand and of another run agree, with the same number of bytes
 pub start_agrees : (p : Pages) (s : Setup) (c : Call) (m : TargetMarks) (w w' : World) (from : ℕ) (cells : List CellMark) → TargetAgrees p m w w' →
     CellsAgree p from cells w.cells w'.cells → length p.there ≡ length p.here → s.layout.buffer_at - s.layout.return_at + length p.here ≤ length m.ram
     → PointAgrees p (TargetAgrees p)
@@ -120,7 +120,7 @@ start_agrees p s c m w w' from cells agrees marked same fits = record {
   };
 }
 
--- between calls
+-- the marks between calls
 
 unnamed_says : (p q : Pages) (m : Mark) (v v' : ℕ) → Says p m v v' → Says q (unnamed m) v v'
 unnamed_says p q Known v v' says = says
@@ -137,7 +137,7 @@ no_run p q k None None e runs = tt
 no_run p q k None (Some o') e runs = absurd runs
 no_run p q k (Some o) o' e runs = cc
 
--- what a call leaves, where no operation is open, fits for every page
+-- the marks after a call without an open operation hold for every page
 pub forgotten_agrees : (p q : Pages) (m : TargetMarks) (w w' : World) → m.state.operation ≡ None → TargetAgrees p m w w' → TargetAgrees q (forgotten m) w w'
 forgotten_agrees p q m w w' idle agrees = record {
   base = agrees.base;

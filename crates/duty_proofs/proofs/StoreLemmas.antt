@@ -1,4 +1,4 @@
--- Stores to the registers and to the cells, of a controller at hand and of one whose address register is another.
+-- Stores to the registers and to the cells, by a controller at hand and one with another address in its address register.
 use Rattle.std.proofs.Common.{◌≡◌, ◌<◌, ◌≤◌, ◌+◌, ◌&&◌, ◌||◌, ℕ, suc, Bool, true, false, not, nat_eq, nat_le, if◌then◌else◌, List, ◌∷◌, length, take, drop}
 use Rattle.std.proofs.Common.{slice_index, get_or, Option, Some, None, is_some, Result, Ok, refl, sym, ap, ap₂, subst, ◌∙◌, ⊎_elim, arith}
 use Rattle.std.proofs.Common.{drop-cons}
@@ -43,7 +43,7 @@ use Rattle.duty_proofs.specs.TargetMarks.{fc1_spares, spares, takes_address, pro
 pub same_marks : (a b : TargetMarks) → Some a ≡ Some b → a ≡ b
 same_marks a b e = cc
 
--- a store to a register looks at no more of the operation than whether one runs
+-- a store to a register depends on the operation only by whether one is open
 pub store_alike : (map : FlashMap) (r : AnyRegisters) (o o' : Option Operation) (offset v : ℕ) → is_some o' ≡ is_some o →
     any_store map r o' offset v ≡ any_store map r o offset v
 unfolding fc1_store fc1_started fpec_store control_stored
@@ -73,7 +73,7 @@ not_true : (b : Bool) → not b ≡ true → b ≡ false
 not_true true e = cc
 not_true false e = refl
 
--- an effect with registers that have another address
+-- an effect and its registers, with another address in the address register
 abbrev pub addressed : ℕ → Effect × AnyRegisters → Effect × AnyRegisters
 addressed x q = (q.0, with_address q.1 x)
 
@@ -90,7 +90,7 @@ pick x true b s t u s' t' u' one two three = one
 pick x false true s t u s' t' u' one two three = two
 pick x false false s t u s' t' u' one two three = three
 
--- an erasure that is begun, or none
+-- the address doesn't matter for an operation that is begun, or none
 begins_spared : (r : State) (x : ℕ) (o : Option Operation) → does_as Fpec (begins_or o (record r { address = x }) (record r {
   address =
       x;
@@ -98,7 +98,7 @@ begins_spared : (r : State) (x : ℕ) (o : Option Operation) → does_as Fpec (b
 begins_spared r x None = refl
 begins_spared r x (Some o) = refl
 
--- a start of no sector's erasure: that of all cells, or nothing
+-- the address doesn't matter for a start that isn't a sector erase
 started_by : (map : FlashMap) (r : State) (x : ℕ) (all : Bool) → (r.erases_sector && not r.erases_all) ≡ false → (r.erases_all && not r.erases_sector) ≡ all
     → does_as Fpec (started map (record r { address = x })) ≡ addressed x (does_as Fpec (started map r))
 unfolding started
@@ -220,7 +220,7 @@ any_taken map (Fpec r) x o o' offset v some e =
     subst (λ (n : ℕ). any_store map (with_address (Fpec r) x) o' n v ≡ any_store map (Fpec r) o n v) (sym at)
     (address_stored_same map r x o o' v idle (some ∙ idle))
 
--- what a store to the device leaves of the marks, by the rows of both runs
+-- the marks after a store outside the RAM, by the rows of both runs
 pub record DeviceStored (p : Pages) (m m' : TargetMarks) (row row' : Result (Prim.Unit {0}) BusEnd × UnitState) : Type 0 where
   pub answer : row'.0 ≡ row.0
   pub state : row.1 ≡ m'.state
@@ -243,7 +243,7 @@ blank_two cells at fits one two =
     ap (λ (l : List ℕ). all_are 0xFF (take 2 l)) (first ∙ ap (λ (l : List ℕ). slice_index cells at ∷ l) second)
     ∙ (rw (eq-eqb _ _ one, eq-eqb _ _ two') refl)
 
--- FPEC programs a halfword over an erased one, whatever it is
+-- the operation of FPEC that programs a halfword over an erased one, whatever its value is
 abbrev half_of_value : FlashMap → ℕ → ℕ → Operation
 half_of_value map at v = record { work = work.Half v; place = at; ticks = map.program_ticks }
 
@@ -259,7 +259,7 @@ programs_half : (map : FlashMap) (r : State) (found : Found) (v : ℕ) (cells : 
     → fpec_program map r found 2 v (seen (looks r 2 v) cells found.place 2) ≡ (effect.Begins (half_of_value map found.place v), r)
 programs_half map r found v cells may blank = programs_by map r found v cells (nat_eq (half_of v) 0) refl may blank
 
--- a mark that says erased is one of the list
+-- a cell marked as erased is one of the cells with marks
 pub blank_within : (ms : List CellMark) (k : ℕ) → is_blank ms k ≡ true → k < length ms
 blank_within ms k e = ⊎_elim
     (λ (below : k < length ms). below)
@@ -293,7 +293,7 @@ pub blank_four : (cells : List ℕ) (at : ℕ) → all_are 0xFF (cells_at cells 
     all_are 0xFF (cells_at cells at 4) ≡ true
 blank_four cells at one two = four_by (drop at cells) one (subst (λ (l : List ℕ). all_are 0xFF (take 2 l) ≡ true) (sym (drop-drop 2 at cells)) two)
 
--- a unit is programmed over erased cells, whatever it is
+-- the operation that programs a unit over erased cells, whatever its value is
 abbrev pub unit_of_value : FlashMap → ℕ → ℕ → ℕ → Operation
 unit_of_value map at width v = record { work = unit_work width v; place = at; ticks = map.program_ticks }
 

@@ -1,4 +1,4 @@
--- The marks of a target last over each access that is answered.
+-- What the marks of a target say stays true over each access that is answered.
 use Rattle.std.proofs.Common.{◌≡◌, ◌<◌, ◌≤◌, ◌+◌, ◌-◌, ◌&&◌, ◌||◌, ℕ, Bool, true, false, nat_eq, nat_le, if◌then◌else◌, List, ◌∷◌, length, take, drop}
 use Rattle.std.proofs.Common.{slice_index, get_or, option_map, Option, Some, None, is_some, Result, Ok, Err, refl, sym, ap, ap₂, subst, ◌∙◌, ⊎_elim, arith}
 use Rattle.std.proofs.Common.{eqb-true}
@@ -81,13 +81,13 @@ range_same p k (Some o) (Some o') agree = ap₂ (λ (x y : ℕ). let r : ℕ × 
 range_same p k None (Some o') agree = absurd agree
 range_same p k (Some o) None agree = absurd agree
 
--- the operations that run cover the same cells in both runs
+-- the open operations of both runs cover the same cells
 pub same_operation : (p : Pages) (m : TargetMarks) (w w' : World) → TargetAgrees p m w w' → state_op w'.state ≡ state_op w.state
 same_operation p m w w' agrees = range_same p m.value m.state.operation w'.state.operation agrees.runs ∙ sym (ap (λ (s : UnitState). state_op s) agrees.state)
 
 -- ---- loads
 
--- a register that isn't that of the address is loaded alike
+-- a load of a register other than the address register is alike in both runs
 load_same : (r : AnyRegisters) (x : ℕ) (o o' : Option Operation) (offset : ℕ) → is_some o' ≡ is_some o → is_erasure o' ≡ is_erasure o →
     is_address r offset ≡ false →
     any_load (with_address r x) o' offset ≡ any_load r o offset
@@ -108,7 +108,7 @@ any_answer : (p : Pages) (quiet : Bool) (v u : ℕ) → LoadAgrees p Any v (or_q
 any_answer p true v u = record { value = u; answered = refl; says = tt }
 any_answer p false v u = record { value = u; answered = refl; says = tt }
 
--- the address register is one alone
+-- a load of the address register is answered in both runs, and nothing is said of its value
 address_loads : (p : Pages) (quiet : Bool) (r : AnyRegisters) (x v offset : ℕ) (o o' : Option Operation) → is_address r offset ≡ true →
     or_quiet 0 quiet (answered (any_load r o offset)) ≡ Ok v → LoadAgrees p Any v (or_quiet 0 quiet (answered (any_load (with_address r x) o' offset)))
 unfolding fc1_load fpec_load
@@ -119,12 +119,12 @@ address_loads p quiet (Fpec r) x v offset o o' e is =
     let at : offset ≡ 0x14 = eqb-true _ _ e in
     subst (λ (n : ℕ). LoadAgrees p Any v (or_quiet 0 quiet (answered (any_load (with_address (Fpec r) x) o' n)))) (sym at) (any_answer p quiet v x)
 
--- a mark of a cell as that of a byte
+-- the mark of a cell as the mark of a byte
 byte_says : (p : Pages) (c : CellMark) (v v' : ℕ) → CellSays p c v v' → Says p (byte_of c) v v'
 byte_says p Blank v v' says = says.1 ∙ sym says.0
 byte_says p (Holds x) v v' says = says
 
--- cells that a load takes, as a number
+-- the cells of a load, as one number
 
 one_value : (l : List ℕ) → slice_index l 0 ≡ value_of (take 1 l)
 one_value [] = refl
@@ -172,7 +172,7 @@ module _ (p : Pages) (m : TargetMarks) (w w' : World) (agrees : TargetAgrees p m
   flash_by true x x' v k false says is = let same : x ≡ v = cc in record { value = x'; answered = refl; says = subst (λ (n : ℕ). Says p k n x') same says }
   flash_by false x x' v k false says is = let same : x ≡ v = cc in record { value = x'; answered = refl; says = subst (λ (n : ℕ). Says p k n x') same says }
 
-  -- the cells that have marks, as bytes
+  -- the bytes of the cells that have marks
   seen_cells : List ℕ → List ℕ
   seen_cells cells = take (length m.cells) (drop m.from cells)
 
@@ -197,7 +197,7 @@ module _ (p : Pages) (m : TargetMarks) (w w' : World) (agrees : TargetAgrees p m
         (cases_lt k (length m.cells));
   }
 
-  -- a number of the cells that have marks is one of all cells
+  -- a number of the cells that have marks is the same number of all cells
   number_seen : (cells : List ℕ) (width i : ℕ) → (width ≡ 1) ⊎ ((width ≡ 2) ⊎ (width ≡ 4)) → i + width ≤ length m.cells
       → value_at (seen_cells cells) width i ≡ value_of (cells_at cells (m.from + i) width)
   number_seen cells width i wide fits =
@@ -312,7 +312,7 @@ module _ (p : Pages) (m : TargetMarks) (w w' : World) (agrees : TargetAgrees p m
   is_some' : is_some w'.state.operation ≡ is_some m.state.operation
   is_some' = some_same p m.value m.state.operation w'.state.operation agrees.runs
 
-  -- the effect is the same in both runs, and so are the registers, but perhaps for the address
+  -- the effect is the same in both runs, and so are the registers in all but perhaps the address
   register_by : (width offset v : ℕ) (known : Bool) → (done' offset v).0 ≡ (done offset v).0 → Alike known (done offset v).1 (done' offset v).1
       → DeviceStored p m (record (registered m offset v) { address = known }) (row width v (place.Register offset)) (row' width v (place.Register offset))
   register_by width offset v known same alike = record {
@@ -336,7 +336,7 @@ module _ (p : Pages) (m : TargetMarks) (w w' : World) (agrees : TargetAgrees p m
       register_by width offset v known (ap (λ (q : Effect × AnyRegisters). q.0) same)
       (alike_same known (done offset v).1 (done' offset v).1 (ap (λ (q : Effect × AnyRegisters). q.1) same))
 
-  -- the address register isn't known
+  -- a store where the address register isn't known
   unaddressed_by : (width offset v x : ℕ) (m' : TargetMarks) (takes spared' : Bool) → w'.state.registers ≡ with_address m.state.registers x
       → takes_address m.state.registers m.state.operation offset ≡ takes → spares m.state.registers offset v ≡ spared' → m.address ≡ false
       → (if takes then Some (let y : TargetMarks = record (registered m offset v) {

@@ -1,4 +1,4 @@
--- The marks of a target last over a tick.
+-- What the marks of a target say stays true over a tick.
 use Rattle.std.proofs.Common.{◌≡◌, ◌<◌, ◌≤◌, ◌+◌, ◌-◌, ◌/◌, ◌%◌, ◌^◌, ◌&&◌, ℕ, zero, suc, Bool, true, false, nat_eq, nat_le, if◌then◌else◌, List, [], ◌++◌}
 use Rattle.std.proofs.Common.{length, take, drop, replicate, slice_index, get_or, Option, Some, None, refl, sym, ap, subst, ◌∙◌, ⊎_elim, arith, eqb-true}
 use Rattle.std.proofs.Common.{length-append, length-take, length-drop}
@@ -50,7 +50,7 @@ filled_says : (p : Pages) (v v' : ℕ) (blank : Bool) → nat_eq v 0xFF ≡ blan
 filled_says p v v' true e same = (eqb-true _ _ e, same ∙ eqb-true _ _ e)
 filled_says p v v' false e same = same
 
--- the cells that an operation leaves
+-- the marks of the cells that an operation leaves
 work_says : (p : Pages) → ArePages p → (k : Mark) (a b : Work) → WorkAgrees p k a b → (i : ℕ) → i < work_len a →
     CellSays p (get_or (work_marks k a) i (Holds Any)) (slice_index (work_bytes a) i) (slice_index (work_bytes b) i)
 work_says p bytes k (work.Half v) (work.Half v') agree zero below =
@@ -169,7 +169,7 @@ module _ (p : Pages) (bytes : ArePages p) (k : Mark) (a b : Work) (agree : WorkA
   settled_cells false e = nothing_left
 
 module _ (p : Pages) (bytes : ArePages p) (m : TargetMarks) (w w' : World) (agrees : TargetAgrees p m w w') where
-  -- the worlds after a tick that leaves these
+  -- the world after a tick that leaves this controller and these cells
   abbrev with_state : World → UnitState × List ℕ → World
   with_state x q = record x { state = q.0; cells = q.1 }
 

@@ -11,7 +11,7 @@ use Rattle.duty_trials.specs.Subjects.{setup_for, site_in, IsSpan}
 use Rattle.duty_trials.proofs.SubjectLemmas.{layout_good}
 use Rattle.duty_trials.proofs.WorkLemmas.{emptied, stays_empty}
 
--- the page that was emptied
+-- an emptied page may be programmed
 pub page_emptied : (t : Subject) (k : ℕ) (span : Span) (x y : List ℕ) → k < length (site_in t).layout.pages →
     IsSpan t (range_at (site_in t).layout.pages k) span
     → length x ≡ t.cells → OnlyBetween span.from span.to x y → ((i : ℕ) → span.from ≤ i → i < span.to → slice_index y i ≡ t.algorithm.now.device.empty)
@@ -41,7 +41,7 @@ may_more t set n x y so less here others = λ k below is. elim (cases_lt k n) [
       subst (λ (j : ℕ). MayWork (setup_for t) (site_in t) y work.Pages j) (sym same) (here (subst (λ (j : ℕ). get_or set j false ≡ true) same is))
 ]
 
--- a number that a set has is one of its
+-- a member of a set is below the set's length
 pub member_inside : (set : List Bool) (k : ℕ) → get_or set k false ≡ true → k < length set
 member_inside [] k is = let wrong : false ≡ true = is in absurd cc
 member_inside (b ∷ rest) zero is = omega arith

@@ -23,7 +23,7 @@ use Rattle.duty_rounds.specs.declared.verdict.Verdict.{Verdict}
 use Rattle.duty_rounds.specs.declared.verdict.Verdict.TheVariants as verdict
 use Rattle.duty_rounds.specs.Verdicts.{Breaks, IsBreach, IsBroken, SaysTried, Says, beside, BreaksOne, IsTrueOf}
 
--- a list that broke refutes that the algorithm keeps its duties
+-- an algorithm with a list that broke doesn't keep its duties
 pub breaks_refutes : (b : BoardShown) (a : AlgorithmShown) (region : ℕ) (w : Work) (turn : Turn) → Breaks b a region w turn → Serves b a region → ⊥
 breaks_refutes b a region w turn x =
     let held : List ℕ = part (site_of b a region) x.ideal in
@@ -31,7 +31,7 @@ breaks_refutes b a region w turn x =
     (duty_at (setup_of a b) (device_of a) w held turn)
     x.breaks
 
--- lists that were tried and didn't break
+-- lists that were tried without a breach have the verdict Tried
 pub still_tried : (b : BoardShown) (a : AlgorithmShown) (region : ℕ) (v : Verdict) → SaysTried b a region v → (IsBroken v → ⊥) → v ≡ verdict.Tried
 still_tried b a region verdict.Proved says whole = absurd says
 still_tried b a region verdict.Tried says whole = refl
@@ -53,7 +53,7 @@ SoFar b algorithms count (verdict.Broken broken) = ⊥
 pub so_far_none : (b : BoardShown) (algorithms : List AlgorithmShown) → SoFar b algorithms 0 verdict.Proved
 so_far_none b algorithms = λ k other less. absurd (omega (arith, less))
 
--- one more
+-- the verdict of several algorithms after one more
 pub so_far_more : (b : BoardShown) (algorithms : List AlgorithmShown) (count : ℕ) (a : AlgorithmShown) (v own : Verdict) → SoFar b algorithms count v
     → ((other : AlgorithmShown) → get_or algorithms count other ≡ a) → Says b a count own → (IsBroken (beside v own) → ⊥) →
     SoFar b algorithms (count + 1) (beside v own)
@@ -78,7 +78,7 @@ its_breach b algorithms count a broken is breach = record {
   breach = subst (λ (n : ℕ). IsBreach b a n broken) (sym breach.region_is) breach;
 }
 
--- one more, which broke a duty
+-- the verdict of several algorithms after one more, which broke a duty
 pub broken_says : (b : BoardShown) (algorithms : List AlgorithmShown) (count : ℕ) (a : AlgorithmShown) (v own : Verdict) → SoFar b algorithms count v
     → slice_get algorithms count ≡ Some a → Says b a count own → IsBroken (beside v own) → IsTrueOf b algorithms (beside v own)
 broken_says b algorithms count a verdict.Proved verdict.Proved so is says broke = absurd broke
@@ -89,16 +89,16 @@ broken_says b algorithms count a verdict.Tried verdict.Tried so is says broke = 
 broken_says b algorithms count a verdict.Tried (verdict.Broken broken) so is says broke = its_breach b algorithms count a broken is says
 broken_says b algorithms count a (verdict.Broken broken) own so is says broke = absurd so
 
--- all of them
+-- the verdict of all algorithms
 pub so_far_all : (b : BoardShown) (algorithms : List AlgorithmShown) (count : ℕ) (v : Verdict) → length algorithms ≤ count → SoFar b algorithms count v →
     IsTrueOf b algorithms v
 so_far_all b algorithms count verdict.Proved all so = record { serves = λ region other less. so region other (omega (arith, less, all)) }
 so_far_all b algorithms count verdict.Tried all so = tt
 so_far_all b algorithms count (verdict.Broken broken) all so = absurd so
 
--- ---- one algorithm, under the names that the code has
+-- ---- one algorithm, by the names in the code
 
--- what the trial of a list says
+-- what the trial of a list says of the algorithm
 pub breaks_as : (b : BoardShown) (a : AlgorithmShown) (region : ℕ) (w : Work) (set : List Bool) (before ideal : List ℕ) (e : Ended)
     → IfBroken e (BreaksAt b a region w set before ideal) → IfBroken e (Breaks b a region w)
 breaks_as b a region w set before ideal ended.Kept is = tt
@@ -114,7 +114,7 @@ says_as t b a k v board algorithm region says =
     subst (λ (n : ℕ). Says b a n v) region (subst (λ (y : AlgorithmShown). Says b y t.region v) algorithm
     (subst (λ (x : BoardShown). Says x (algorithm_in t) t.region v) board says))
 
--- an algorithm of a list
+-- an element of a list after a function is mapped over it
 pub got_map : {A B : Type 0} (f : A → B) (xs : List A) (k : ℕ) (x : A) → k < length xs → x ≡ get_or xs k x → slice_get (map f xs) k ≡ Some (f x)
 got_map f [] k x less is = absurd (omega (arith, less))
 got_map f (y ∷ ys) zero x less is = ap (λ z. Some (f z)) (sym is)
@@ -125,7 +125,7 @@ at_map f [] k x less is other = absurd (omega (arith, less))
 at_map f (y ∷ ys) zero x less is other = ap (λ z. f z) (sym is)
 at_map f (y ∷ ys) (suc k) x less is other = at_map f ys k x (omega (arith, less)) is other
 
--- A1 on a board that it serves stays proved
+-- after A1 on a board that it serves the verdict stays Proved
 pub proved_more : (b : BoardShown) (algorithms : List AlgorithmShown) (count : ℕ) (a : AlgorithmShown) (v own : Verdict) → count < length algorithms
     → slice_get algorithms count ≡ Some a → (count ≡ 0 → IsA1On b a → own ≡ verdict.Proved)
     → ((x : AlgorithmShown) → algorithms ≡ x ∷ [] → IsA1On b x → v ≡ verdict.Proved)
@@ -137,7 +137,7 @@ proved_more b algorithms count a v own less is now before x only on =
     let same : x ≡ a = cc in
     ap (λ (z : Verdict). beside z own) (before x only on) ∙ now first (subst (λ (y : AlgorithmShown). IsA1On b y) same on)
 
--- ---- the algorithm in a place of a list, judged
+-- ---- the verdict of the algorithm at a place of a list
 
 pub record Judged (b : BoardShown) (algorithms : List AlgorithmShown) (k : ℕ) (a : AlgorithmShown) (own : Verdict) : Type 0 where
   pub less : k < length algorithms

@@ -1,4 +1,4 @@
--- The marks of the cells of a call before it, and what they say of the cells at hand.
+-- The marks of a call's cells before it, and what they say of the cells at hand.
 use Rattle.std.proofs.Common.{◌≡◌, ◌<◌, ◌≤◌, ◌+◌, ℕ, suc, List, [], ◌∷◌, ◌++◌, map, length, replicate, slice_index, get_or, refl, sym, ap, ◌∙◌, ⊎_elim}
 use Rattle.std.proofs.Common.{arith}
 use Rattle.std.proofs.lemmas.Bool.{cases_lt}
@@ -15,7 +15,7 @@ use Rattle.duty_runs.specs.declared.ask.Task.{Task}
 use Rattle.duty_runs.specs.declared.ask.Task.TheVariants.{Quiet, Erases, Programs, Compares}
 use Rattle.duty_runs.specs.Asks.{before_in, own_page, FitsCell}
 
--- cells are named one by one
+-- the marks of named cells, one cell after the other
 
 pub no_cells : named_cells 0 ≡ []
 unfolding names
@@ -28,7 +28,7 @@ one_cell_more i =
     sym (ap named_cells more ∙ ap (λ (l : List Mark). map Holds l) (names_snoc 0 i)
     ∙ map-append Holds (names 0 i) (Page 1 (0 + i) ∷ []) ∙ ap (λ (n : ℕ). named_cells i ++ Holds (Page 1 n) ∷ []) same)
 
--- at hand
+-- the marks before a call, and the cells at hand that fit them
 
 before_long : (task : Task) (many : ℕ) → length (before_in task many) ≤ many
 before_long Quiet many = omega arith

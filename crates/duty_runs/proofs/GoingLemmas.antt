@@ -1,4 +1,4 @@
--- Step by step, the run at hand of a call and every other one.
+-- The run at hand of a call and every other run of it, step by step.
 use Rattle.std.proofs.Common.{◌≡◌, ◌+◌, ℕ, zero, suc, Bool, true, false, List, length, Option, Some, None, refl, sym, ap, subst, ◌∙◌}
 use Rattle.armv6m_decode.specs.declared.registers.TheConstants.{PC}
 use Rattle.flash_layout.specs.declared.work.Operation.{Operation}
@@ -27,7 +27,7 @@ use Rattle.duty_proofs.proofs.TickLemmas.{target_ticks}
 use Rattle.duty_runs.specs.Asks.{own_page}
 use Rattle.duty_runs.specs.Steps.{Steps}
 
--- an operation that runs on, or ends, is in the place where it was
+-- an operation that continues or ends is in the same place as before
 
 left_opens : (place : Option (ℕ × ℕ)) (m : TargetMarks) (o : Operation) (ticks : ℕ) → OpensIn place (range_of (Some o)) →
     OpensIn place (state_op (tick_left m o ticks).state)
@@ -40,7 +40,7 @@ tick_opens : (place : Option (ℕ × ℕ)) (m : TargetMarks) (o : Option Operati
 tick_opens place m None is opens = subst (λ (o : Option Operation). OpensIn place (range_of o)) (sym is) opens
 tick_opens place m (Some o) is opens = left_opens place m o o.ticks opens
 
--- marks after an instruction are there where the PC is known
+-- an instruction has marks only if the PC is known
 
 only_true : {X : Type 0} (k : Bool) (o : Option X) (x : X) → only_if k o ≡ Some x → k ≡ true
 only_true true o x is = refl
@@ -59,7 +59,7 @@ module _ (s : Setup) (place : Option (ℕ × ℕ)) (m : TargetMarks) (w : World)
   abbrev starts : ℕ → Marks TargetMarks
   starts n = start_marks s m n from before
 
-  -- The run at hand has come to a point by n steps, and has these marks there. So has every other run from a target that the first marks fit.
+  -- The run at hand has reached a point after n steps, with these marks. So has every other run from a target that the first marks fit.
   pub record Going (n : ℕ) (r : Marks TargetMarks) (x : Point) : Type 0 where
     pub here : x ≡ whole (first bytes w) n
     pub alike : (p : Pages) (w' : World) → ArePages p → p.here ≡ bytes → length p.there ≡ length p.here

@@ -30,7 +30,7 @@ half_read w at half from to is =
     let far : nat_lt (w.ram_base + length w.ram) (at + 2) ≡ false = before (w.ram_base + length w.ram) (at + 2) to in
     rw (near, far) (ap Ok (sym is))
 
--- a step that ends no run went
+-- a step that doesn't end the run went
 went_so : (e : StepEnd) (pc : ℕ) → run_end e pc ≡ None → e ≡ step.Went
 went_so step.Went pc none = refl
 went_so (step.Break at) pc none = cc
@@ -40,7 +40,7 @@ went_so (step.Unaligned at) pc none = cc
 went_so (step.BadState at) pc none = cc
 went_so step.Device pc none = cc
 
--- where no end is found
+-- a step where no end is found went
 no_end : (here used : Bool) (r : RunEnd) (pc : ℕ) (e : StepEnd) → (if here then Some r else if used then Some (run.NoFuel pc) else run_end e pc) ≡ None →
     (here ≡ false) × (e ≡ step.Went)
 no_end true used r pc e none = cc

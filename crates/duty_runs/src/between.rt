@@ -10,7 +10,7 @@ use shadow_step::Mark;
 use std::alloc::Global;
 use target_core::AnyRegisters;
 
-/// A target at hand between two calls, and what other runs have in common with it. No operation is open.
+/// A target between two calls of the run at hand, and what other runs have in common with it. No operation is open.
 #[derive(Drop)]
 pub struct Between {
     /// The bytes of the RAM.

@@ -60,7 +60,7 @@ impl<'a> Hand<'a> {
         Ok(ram)
     }
 
-    /// What stands now, where no operation runs, and all of it is the same in every run, as after a load.
+    /// The present state of the target, as after a load: all of it is the same in every run. No operation is open.
     pub fn loaded(&self, alloc: Global) -> Result<Between, OutOfMemory>
         requires { (unit_state self.now.calls.machine.unit).operation ≡ None }
         ensures ram { IfOk result (λ state. state.ram.items ≡ window_of self.now.arena 0) }
@@ -79,7 +79,7 @@ impl<'a> Hand<'a> {
         })
     }
 
-    /// What stands after a call at whose end no operation runs, by the marks that it left.
+    /// The state of the target after a call, with the marks that the call left. No operation is open.
     pub(crate) fn left(&self, alloc: Global, marks: &Marked<'_>) -> Result<Between, OutOfMemory>
         requires idle { marks.now.state.operation ≡ None }
         requires long { length marks.now.ram.items ≡ (hand_setup self.now).ram_size }

@@ -1,4 +1,4 @@
--- What a load on a target as after a reset leaves is where a list begins.
+-- A list begins on a target after a reset, with the algorithm loaded.
 use Rattle.std.proofs.Common.{◌≡◌, ◌∙◌, ℕ, List, ap}
 use Rattle.board_file.specs.Shown.{Shown as BoardShown}
 use Rattle.flash_layout.specs.Maps.{FlashMap, board_map}

@@ -1,4 +1,4 @@
--- What the ideal device leaves, where places of a sector, a page or the region are put.
+-- What the ideal device leaves, where the places of a sector, a page or the region are written.
 use Rattle.std.proofs.Common.{◌≡◌, ◌<◌, ◌≤◌, ◌+◌, ◌-◌, ◌∙◌, ⊎_elim, inl, inr, ℕ, List, length, take, drop, slice_index, set, Some, refl, sym}
 use Rattle.std.proofs.Common.{ap, length-take, length-drop, arith}
 use Rattle.std.proofs.lemmas.Grind.{same_number_lists}
@@ -25,13 +25,13 @@ byte_in : (r : Range) (cells : List ℕ) (i : ℕ) → i < r.stop - r.start → 
 unfolding bytes_in
 byte_in r cells i less = get_or-map-range_with_len (λ (k : ℕ). slice_index cells k) r.start (r.stop - r.start) i (r.start + i) 0 less refl
 
--- contents that agree there have the same
+-- contents that agree on a range have the same bytes there
 pub bytes_agree : (r : Range) (x y : List ℕ) → ((i : ℕ) → In i r → slice_index y i ≡ slice_index x i) → bytes_in r x ≡ bytes_in r y
 bytes_agree r x y same = same_number_lists (bytes_in r x) (bytes_in r y) (bytes_length r x ∙ sym (bytes_length r y)) (λ i h.
     let less : i < r.stop - r.start = omega (arith, h, bytes_length r x) in
     byte_in r x i less ∙ sym (same (r.start + i) (omega arith, omega (arith, less))) ∙ sym (byte_in r y i less))
 
--- ---- places that are put one after the other
+-- ---- places that are written one after the other
 
 pub only_none : (from : ℕ) (x : List ℕ) → OnlyBetween from from x x
 only_none from x = record { long = refl; same = λ i out. refl }
@@ -114,7 +114,7 @@ module _ (site : Site) (r : Range) (x y : List ℕ) (among : site.start + site.l
         (cases_lt i site.layout.size),
   )
 
-  -- a value that was put there is there
+  -- a range of the region that was filled with a value holds it
   pub filled : (v : ℕ) → ((i : ℕ) → site.start + r.start ≤ i → i < site.start + r.stop → slice_index y i ≡ v) → IsEmpty v r (part site y)
   filled v put i inside = part_at site y i (omega (arith, inside.1, below)) ∙ put (site.start + i) (omega (arith, inside.0)) (omega (arith, inside.1))
 

@@ -36,7 +36,7 @@ more f p (false ∷ rest) (suc k) is =
     let e : p + 1 + k ≡ p + suc k = omega arith in
     more f (p + 1) rest k is ∙ ap (λ (n : ℕ). members f (p + 1) (take k rest) ++ f n ∷ []) e
 
--- one number more of a set, which is in it
+-- a number that is in the set adds a member
 pub members_more : (f : ℕ → Duty) (set : List Bool) (k : ℕ) → get_or set k false ≡ true → members f 0 (take (k + 1) set) ≡ members f 0 (take k set) ++ f k ∷ []
 members_more f set k is =
     ap (λ (n : ℕ). members f 0 (take n set)) (add-one k) ∙ more f 0 set k is ∙ ap (λ (n : ℕ). members f 0 (take k set) ++ f n ∷ []) (zero-add k)
@@ -83,7 +83,7 @@ none_between (x ∷ xs) ys d none = let no : x ∷ (xs ++ d ∷ ys) ≡ [] = non
 pub members_some : (f : ℕ → Duty) (p : ℕ) (set : List Bool) (k : ℕ) → get_or set k false ≡ true → members f p set ≡ [] → ⊥
 members_some f p set k is none = none_between _ _ _ (sym (split f p set k is) ∙ none)
 
--- a set of one number with a member
+-- a set of one number that has it
 pub only_one : (set : List Bool) (k : ℕ) → length set ≡ 1 → get_or set k false ≡ true → set ≡ true ∷ []
 only_one [] k long is = absurd (omega (arith, long))
 only_one (true ∷ []) k long is = refl
@@ -116,7 +116,7 @@ checks_are s l cells (true ∷ bs) k =
     (checks_are s l cells bs (k + 1))
 checks_are s l cells (false ∷ bs) k = checks_are s l cells bs (k + 1)
 
--- They are the members of the set. The chip is the only member of its set, and checks are of the cells as they are.
+-- The works of a phase are the members of the set. The chip is the only member of its set, and checks are of the cells as they are.
 pub works_are : (s : Setup) (l : Geometry) (w : Work) (set : List Bool) (cells held : List ℕ) → (w ≡ work.Chip → set ≡ true ∷ [])
     → (w ≡ work.Checks → held ≡ cells)
     → works_of s l cells (phase_of w set held) ≡ members (work_on s l w held) 0 set
@@ -134,7 +134,7 @@ kinds_are s l work.Chip set cells held works is = ap (λ (xs : List Duty). init_
 kinds_are s l work.Pages set cells held works is = ap (λ (xs : List Duty). init_of work.Pages ∷ (xs ++ uninit_of work.Pages ∷ [])) is
 kinds_are s l work.Checks set cells held works is = ap (λ (xs : List Duty). init_of work.Checks ∷ (xs ++ uninit_of work.Checks ∷ [])) is
 
--- the call is one of the list: an end of it, or one for a member
+-- a turn of a list: one of its ends, or a member of its set
 abbrev pub IsTurn : List Bool → Turn → Type 0
 IsTurn set turn.Init = Unit {0}
 IsTurn set (turn.Member k) = get_or set k false ≡ true

@@ -1,4 +1,4 @@
--- A list that is tried call after call: what each call may count on, where the target stands, and that a breach is one of the list.
+-- A list that is tried call by call: what each call may rely on, the target at each call, and that a breach is one of the list.
 use Rattle.std.proofs.Common.{◌≡◌, ◌<◌, ◌≤◌, ◌+◌, ◌^◌, ◌∙◌, ◌⊎◌, ⊎_elim, inl, inr, ℕ, suc, Bool, true, false, All, List, [], ◌∷◌, length}
 use Rattle.std.proofs.Common.{length-take, take, drop, get_or, slice_index, Option, None, refl, sym, ap, subst, zero-add, arith}
 use Rattle.std.proofs.lemmas.List.Elements.{All-take, All-drop}
@@ -41,9 +41,9 @@ is_or_not : (x : Bool) → (x ≡ true) ⊎ (x ≡ false)
 is_or_not true = inl refl
 is_or_not false = inr refl
 
--- ---- what a call may count on
+-- ---- what a call may rely on
 
--- a page stays as it is where another one is programmed
+-- a page stays as it is when another page is programmed
 page_stays : (s : Setup) (site : Site) (k j : ℕ) (bytes x y : List ℕ) → IsGeometry site.layout → (k ≡ j → ⊥)
     → Does s site x (Acting (act.ProgramPage k bytes)) y
     → (i : ℕ) → In i (range_at site.layout.pages j) → slice_index (part site y) i ≡ slice_index (part site x) i
@@ -92,7 +92,7 @@ all_ready s site w held good (true ∷ bs) k cells may =
 all_ready s site w held good (false ∷ bs) k cells may = all_ready s site w held good bs (k + 1) cells (λ j is.
     let e : k + suc j ≡ k + 1 + j = omega arith in subst (λ (n : ℕ). MayWork s site cells w n) e (may (suc j) is))
 
--- ---- a list that `Serves` speaks of
+-- ---- a list that `Serves` covers
 
 may_ask : (s : Setup) (l : Geometry) (w : Work) (set : List Bool) (held : List ℕ) → length set ≡ count_of l w → HasFunction s.algorithm.entries w
     → length held ≡ l.size
@@ -102,7 +102,7 @@ may_ask s l work.Chip set held long has size bytes = has
 may_ask s l work.Pages set held long has size bytes = (long, size, bytes)
 may_ask s l work.Checks set held long has size bytes = (long, has)
 
--- what is so of a list before its trial: a set with a member, and cells over which its works may be asked for
+-- what is known of a list before its trial: a set with a member, and cells over which its works may be asked for
 pub record IsList (b : BoardShown) (a : AlgorithmShown) (region : ℕ) (w : Work) (set : List Bool) (before : List ℕ) : Type 0 where
   pub good : IsGeometry (device_of a)
   pub long : length before ≡ cells_in (board_map b).areas
@@ -137,7 +137,7 @@ asks b a region w set before ideal list same bytes still =
           subst (λ (n : ℕ). MayWork s site before w n) (sym (zero-add j)) (list.may j is)));
     }
 
--- a call of it that isn't kept breaks in it
+-- a call of a list that isn't kept is a breach of the list
 pub breaks : (b : BoardShown) (a : AlgorithmShown) (region : ℕ) (w : Work) (set : List Bool) (before ideal : List ℕ) (t : Turn) (s : Setup) (x : World)
     → IsList b a region w set before
     → length ideal ≡ length before → All (λ v. v < 2 ^ 8) ideal → (w ≡ work.Checks → ideal ≡ before) → IsTurn set t → s ≡ setup_of a b
@@ -157,7 +157,7 @@ breaks b a region w set before ideal t s x list same bytes still is setup stands
           (subst (λ (z : Setup). Keeps z site x (duty_at (setup_of a b) (device_of a) w held t) → ⊥) setup broken);
     }
 
--- ---- where a list has come
+-- ---- how far a list has come
 
 -- All calls before number `k` were kept. The target has made them, over the cells that the ideal device leaves, and no operation is open.
 pub record Goes (b : BoardShown) (a : AlgorithmShown) (region : ℕ) (w : Work) (set : List Bool) (before : List ℕ) (k : ℕ) (s : Setup) (x : World)
@@ -193,7 +193,7 @@ goes_first b a region w set before kind s s' x x' operation list told setup same
   idle = idle;
 }
 
--- where the next number isn't in the set
+-- the loop's state after a number that isn't in the set
 goes_past : (b : BoardShown) (a : AlgorithmShown) (region : ℕ) (w : Work) (set : List Bool) (before : List ℕ) (k : ℕ) (s : Setup) (x : World)
     (operation : Option (ℕ × ℕ)) (ideal : List ℕ)
     → get_or set k false ≡ false → Goes b a region w set before k s x operation ideal → Goes b a region w set before (k + 1) s x operation ideal
@@ -220,7 +220,7 @@ goes_as b a region w set before k s s' x x' operation operation' ideal ideal' se
     (subst (λ (o : Option (ℕ × ℕ)). Goes b a region w set before k s x o ideal') (sym opened)
     (subst (λ (c : List ℕ). Goes b a region w set before k s x operation c) (sym cells) goes)))
 
--- checks leave the cells
+-- checks leave the cells as they are
 still_later : (s t : Setup) (site : Site) (w : Work) (held : List ℕ) (k : ℕ) (x y : List ℕ) → Does s site x (work_on t site.layout w held k) y → w ≡ work.Checks
     → y ≡ x
 still_later s t site work.Sectors held k x y does is = absurd cc
@@ -228,7 +228,7 @@ still_later s t site work.Chip held k x y does is = absurd cc
 still_later s t site work.Pages held k x y does is = absurd cc
 still_later s t site work.Checks held k x y does is = does
 
--- the works with the cells that the ideal device is to leave
+-- the works over the cells that the ideal device leaves
 abbrev work_with : BoardShown → AlgorithmShown → ℕ → Work → List ℕ → ℕ → Duty
 work_with b a region w ideal j = work_on (setup_of a b) (device_of a) w (part (site_of b a region) ideal) j
 
@@ -241,7 +241,7 @@ module _ (b : BoardShown) (a : AlgorithmShown) (region : ℕ) (w : Work) (set : 
     does : Does (setup_of a b) (site_of b a region) ideal (work_with b a region w ideal' k) ideal'
     does = subst (λ (z : Setup). Does z (site_of b a region) ideal (work_with b a region w ideal' k) ideal') goes.setup tries.does
 
-    -- the calls before it are the same with the cells that it is to leave
+    -- the members before a call are the same over the cells that the ideal device leaves
     same : members (work_with b a region w ideal) 0 (take k set) ≡ members (work_with b a region w ideal') 0 (take k set)
     same = members_same (work_with b a region w ideal) (work_with b a region w ideal') (take k set) 0 (λ j from below.
         work_same (setup_of a b) (setup_of a b) (site_of b a region) w (part (site_of b a region) ideal') k j ideal ideal' goes.list.good
@@ -280,7 +280,7 @@ module _ (b : BoardShown) (a : AlgorithmShown) (region : ℕ) (w : Work) (set : 
     }
 
   module _ (tries : TriesMember s (setup_of a b) (site_of b a region) w set k ideal ideal' x x' operation operation' result) where
-    -- where the call of a number broke
+    -- the list breaks at a member if its call broke
     pub member_breaks : IsBroken result → BreaksAt b a region w set before ideal' (turn.Member k)
     member_breaks broken = ⊎_elim
         (λ (has : get_or set k false ≡ true). call_breaks has (tries.tries has) broken)
@@ -298,7 +298,7 @@ module _ (b : BoardShown) (a : AlgorithmShown) (region : ℕ) (w : Work) (set : 
         (goes_past b a region w set before k s x operation ideal isnt goes))
         (is_or_not (get_or set k false))
 
--- where Init broke
+-- the list breaks at Init if Init isn't kept
 pub init_breaks : (b : BoardShown) (a : AlgorithmShown) (region : ℕ) (w : Work) (set : List Bool) (before : List ℕ) (s : Setup) (x : World)
     → IsList b a region w set before
     → s ≡ setup_of a b → x ≡ ready b a before → (Keeps s (site_of b a region) x (init_of w) → ⊥) → BreaksAt b a region w set before before turn.Init
@@ -315,7 +315,7 @@ uninit_breaks b a region w set before k s x operation ideal bytes all goes broke
     (goes.world ∙ ap (λ (bs : List Bool). world_after (setup_of a b) (site_of b a region) (ready b a before)
     (init_of w ∷ members (work_on (setup_of a b) (device_of a) w (part (site_of b a region) ideal)) 0 bs)) (take_all k set all)) broken
 
--- an end of a list whose trial shows a breach
+-- Init or UnInit isn't kept if its trial shows a breach
 pub end_breaks : (t : Subject) (s : Setup) (x : World) (r r' : Request) (ideal : List ℕ) (result : Tried) → Refutes s x r 0 0 ideal result → r' ≡ r
     → x.cells ≡ ideal
     → length ideal ≡ t.cells → IsBroken result → Keeps s (site_in t) x (Quiet r') → ⊥
@@ -330,7 +330,7 @@ tried_at t tried.Kept P so = tt
 tried_at t (tried.Broken breach) P so = so tt
 tried_at t tried.Fault P so = tt
 
--- at a call whose trial shows a breach
+-- a property of the turn at which the list ended, if the trial there shows a breach
 pub ended : (t : Turn) (x : Tried) (e : Ended) (P : Turn → Type 0) → e ≡ ended_at t x → (IsBroken x → P t) → IfBroken e P
 ended t x e P is so = subst (λ (z : Ended). IfBroken z P) (sym is) (tried_at t x P so)
 

@@ -21,11 +21,11 @@ later range a b on seen = record {
 pub seen_later : (outside : Option (ℕ × ℕ)) (a b : Half) → GoesOn a b → IsSeen outside a → IsSeen outside b
 seen_later outside a b on seen = λ none. seen (λ one. none (record { was = λ range is. later range a b on (one.was range is) }))
 
--- nothing is kept
+-- nothing was seen outside
 pub seen_none : (h : Half) → IsSeen None h
 seen_none h = λ none. none (record { was = λ range is. let no : None ≡ Some range = is in absurd cc })
 
--- one that is open now
+-- an operation that is open now is seen
 pub seen_now : (range : ℕ × ℕ) (h : Half) (cells : List ℕ) → 0 < range.1 → range.0 + range.1 ≤ length cells
     → ((x : List ℕ) → SameOutside (Some range) cells x → left h x)
     → IsSeen (Some range) h
@@ -35,7 +35,7 @@ seen_now range h cells some within may = λ none. none (record {
       subst (λ (r : ℕ × ℕ). WasOpen r h) same (record { moment = h.now; past = omega arith; cells = cells; some = some; within = within; may = may });
 })
 
--- outside the place cells are the same
+-- cells outside the place are the same
 same_at : (place : Option (ℕ × ℕ)) (from to cell : ℕ) (x y : List ℕ) → PlaceIn from to place → (cell < from) ⊎ (to ≤ cell) → SameOutside place x y
     → slice_index y cell ≡ slice_index x cell
 same_at None from to cell x y fits out same = ap (λ (l : List ℕ). slice_index l cell) same
@@ -50,7 +50,7 @@ same_at (Some place) from to cell x y fits out same = ⊎_elim
     ∙ get_or-drop n x (cell - n) 0 ∙ ap (λ (i : ℕ). slice_index x i) at)
     out
 
--- a cell of an open operation may hold any value: so one outside the place differs from any that it had
+-- a cell of an open operation may hold any value, so a cell outside the place may differ from what it was
 at_cell : (place : Option (ℕ × ℕ)) (from to cell : ℕ) (range : ℕ × ℕ) (cells : List ℕ) (start end : BenchState) → range.0 ≤ cell → cell < range.0 + range.1
     → start.moment ≡ 0 → PlaceIn from to place → (cell < from) ⊎ (to ≤ cell) → WasOpen range (cells_half end) → SeenOutside place cells start end
 at_cell place from to cell range cells start end above below begins fits out seen =
@@ -68,7 +68,7 @@ at_cell place from to cell range cells start end above below begins fits out see
           absurd (omega (arith, put, is));
     }
 
--- an operation that didn't lie in its place, on a bench whose moments began with the call
+-- an operation outside its place is seen, on a bench with its first moment at the call
 pub seen_outside : (place : Option (ℕ × ℕ)) (from to : ℕ) (range : ℕ × ℕ) (cells : List ℕ) (start end : BenchState) → start.moment ≡ 0 → PlaceIn from to place
     → ((from ≤ range.0) × (range.0 + range.1 ≤ to) → ⊥) → WasOpen range (cells_half end) → SeenOutside place cells start end
 seen_outside place from to range cells start end begins fits out seen = ⊎_elim

@@ -66,7 +66,7 @@ tries s site d r from to x y w w' operation result does cells is good among plac
 pub at_range : (t : Subject) (s : Setup) (r : Range) (span : Span) → s ≡ setup_for t → IsSpan t r span → s.algorithm.device.base + r.start ≡ span.address
 at_range t s r span setup is = ap (λ (z : Setup). z.algorithm.device.base + r.start) setup ∙ sym is.address
 
--- a range of the device lies between its places
+-- the places of a range of the device among all cells
 pub span_in : (t : Subject) (r : Range) (span : Span) → r.start ≤ r.stop → IsSpan t r span
     → (span.from ≤ (site_in t).start + r.start) × ((site_in t).start + r.start + (r.stop - r.start) ≤ span.to)
 span_in t r span ordered is = (omega (arith, is.from), omega (arith, ordered, is.to))
@@ -163,7 +163,7 @@ check_tries t k span s x bytes w w' operation result cells long less is taken br
     ∙ ap (λ (b : List ℕ). asked (call.Verify span.address) b) (taken_as t r span x bytes long ((layout_good t).pages_part.below k less) is taken))
     (layout_good t) (among t x long) tt broken world cells' idle are
 
--- the work under the name that the code has
+-- the trial of a work, by the name that the code has for it
 pub for_work : (s t : Setup) (site : Site) (v w : Work) (held : List ℕ) (k : ℕ) (x y : List ℕ) (u u' : World) (operation : Option (ℕ × ℕ)) (result : Tried)
     → w ≡ v
     → TriesCall s site (work_on t site.layout v held k) x y u u' operation result → TriesCall s site (work_on t site.layout w held k) x y u u' operation result
@@ -172,7 +172,7 @@ for_work s t site v w held k x y u u' operation result is one = subst
 
 -- ---- pages that are emptied one after the other
 
--- a range that the empty value was put to is empty
+-- a range that was filled with the empty value is empty
 pub emptied : (t : Subject) (r : Range) (span : Span) (x y : List ℕ) → IsSpan t r span → length x ≡ t.cells → r.stop ≤ (site_in t).layout.size
     → OnlyBetween span.from span.to x y
     → ((i : ℕ) → span.from ≤ i → i < span.to → slice_index y i ≡ t.algorithm.now.device.empty) → IsEmpty t.algorithm.now.device.empty r (part (site_in t) y)
@@ -180,7 +180,7 @@ emptied t r span x y is long below only put =
     filled (site_in t) r x y (among t x long) below (only_as t r span x y is only) t.algorithm.now.device.empty
     (λ i above under. put i (omega (arith, above, is.from)) (omega (arith, under, is.to)))
 
--- a range that was empty stays empty when the empty value is put to some cells
+-- a range that was empty stays empty when some cells get the empty value
 pub stays_empty : (t : Subject) (r : Range) (from to : ℕ) (x y : List ℕ) → r.stop ≤ (site_in t).layout.size → OnlyBetween from to x y
     → ((i : ℕ) → from ≤ i → i < to → slice_index y i ≡ t.algorithm.now.device.empty) → IsEmpty t.algorithm.now.device.empty r (part (site_in t) x)
     → IsEmpty t.algorithm.now.device.empty r (part (site_in t) y)

@@ -1,4 +1,4 @@
--- What is read of the description of a device.
+-- What a reader finds in the description of a device.
 use Rattle.std.proofs.Common.{◌≡◌, ◌≢◌, ℕ, zero, suc, ◌+◌, ◌-◌, ◌*◌, ◌<◌, ◌≤◌, Bool, true, false, List, [], ◌∷◌, ◌++◌, length, take, drop, get_or, Some, None}
 use Rattle.std.proofs.Common.{Ok, refl, sym, ap, ◌∙◌, arith}
 use Rattle.std.specs.Prelude.{◌==◌, ◌&&◌, All, map, replicate, slice_index}
@@ -28,7 +28,7 @@ use Rattle.flm_forge.proofs.PlaceLemmas.{length-items}
 use Rattle.flm_forge.proofs.HeaderLemmas.{not_below}
 use Rattle.flm_forge.proofs.LayoutLemmas.{behind_name, item_wide, length-name_field, length-device_bytes, length-descriptor}
 
--- ---- fields that stand in some bytes
+-- ---- fields at a place of some bytes
 
 field32_in : (bytes part : List ℕ) (at j : ℕ) (s : Stands bytes part at) → field32 bytes (at + j) ≡ field32 (part ++ s.rest) j
 field32_in bytes part at j s = ap (λ (r : List ℕ). from_le_bytes w32 (take 4 r)) (stands_drop_more bytes part at j s)
@@ -120,7 +120,7 @@ items_stand l = stands_moved (descriptor_bytes l) _ (0 + length (device_bytes l)
     (stands_right (descriptor_bytes l) (device_bytes l) (flat_map item_bytes l.items ++ item_bytes end_pair) 0 (stands_whole (descriptor_bytes l)))
     (omega (arith, length-device_bytes l))
 
--- an item where its bytes stand
+-- an item is read where its bytes are
 item_read : (bytes : List ℕ) (item : SectorItem) (k : ℕ) → Stands bytes (item_bytes item) (160 + 8 * k) → ItemFits item → described.item_at bytes 0 k ≡ item
 unfolding described.item_at
 item_read bytes item k s fits =
@@ -176,7 +176,7 @@ none_below p (suc n) fails =
     let e : suc n ≡ n + 1 = omega arith in
     ap (first_below p) e ∙ first_below-none p n (none_below p n (λ k less. fails k (omega (arith, less)))) (fails n (omega arith))
 
--- a function that gives each item
+-- a function that gives each item gives the list of all items
 mapped : (f : ℕ → SectorItem) (items : List SectorItem) (n : ℕ) → n ≤ length items → ((k : ℕ) → k < length items → f k ≡ get_or items k end_pair)
     → map f (range_with_len 0 n) ≡ take n items
 mapped f items zero within gives = refl

@@ -1,4 +1,4 @@
--- The entries that labels are.
+-- The entries of a text and the labels that they are.
 use Rattle.std.proofs.Common.{◌≡◌, ◌≢◌, ℕ, suc, ◌+◌, ◌%◌, ◌<◌, ◌≤◌, ◌^◌, Bool, true, false, cond, List, [], ◌∷◌, ◌++◌, length, Option, Some, None, refl, sym}
 use Rattle.std.proofs.Common.{subst, ap, ◌∙◌, arith}
 use Rattle.std.specs.Prelude.{All, Contains, MatchOption, IfSome}
@@ -58,9 +58,9 @@ named_is labels text None cases first = sym (named_none labels text cases)
 named_is labels text (Some place) cases first =
     sym (ap (λ (ls : List Label). place_named ls text) first.labels_are ∙ named_first first.before first.after text place first.first)
 
--- ---- what holds of labels
+-- ---- properties of labels
 
--- what holds of the place of each label holds of a place that is found
+-- a property of the place of each label holds of a place that is found
 named_step : (P : ℕ → Type 0) (b : Bool) (place : ℕ) (later : Option ℕ) (p : ℕ) → P place → (later ≡ Some p → P p) → cond b (Some place) later ≡ Some p → P p
 named_step P true place later p here behind found = let e : place ≡ p = cc in subst P e here
 named_step P false place later p here behind found = behind found
@@ -84,7 +84,7 @@ unfolding shown_place
 shown_holds P labels hidden n p all found =
     named_holds P labels (text_of n) p all (shown_step (is_hidden hidden n) (place_named labels (text_of n)) p found)
 
--- the entries of a text stand at even places
+-- the entries of a text are at even places
 pub entries_even : (text : List ℕ) (code : Code) (hidden : List Name) (e : Entries) → IsAssembled text code → AreEntries code.labels hidden e → AreEven e
 entries_even text code hidden e assembled are =
     let all : All (λ (label : Label). label.place % 2 ≡ 0) code.labels = label_even text code assembled in

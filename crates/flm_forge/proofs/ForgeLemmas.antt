@@ -1,4 +1,4 @@
--- What a call that makes a file ensures of it, and what a refusal says.
+-- What a call that makes a file ensures of the file, and what a refusal says.
 use Rattle.std.proofs.Common.{◌≡◌, inl, inr, ℕ, ◌<◌, ◌^◌, List, length, refl, ap, ◌∙◌, arith}
 use Rattle.std.specs.Prelude.{Result, Ok, Err}
 use Rattle.armv6m_asm.specs.declared.code.Code.{Code}

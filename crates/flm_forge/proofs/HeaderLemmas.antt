@@ -16,7 +16,7 @@ use Rattle.flm_forge.proofs.PlaceLemmas.{Stands, stands_word, stands_first, stan
 pub not_below : (a b : ℕ) → b ≤ a → ltb a b ≡ false
 not_below a b h = grind (arith, nat_tests)
 
--- a part that stands in a file is whole
+-- a part of a file is read whole
 pub whole : (bytes part : List ℕ) (field : Field) (at size : ℕ) → Stands bytes part at → length part ≡ size → whole_part bytes field at size ≡ Ok part
 unfolding whole_part
 whole bytes part field at size s long =
@@ -88,7 +88,7 @@ pub length-elf_header : (at : ℕ) → length (elf_header at) ≡ 52
 unfolding elf_header
 length-elf_header at = refl
 
--- what is read of it
+-- what a reader finds in the ELF header
 pub record ElfFacts (bytes : List ℕ) (at : ℕ) : Type 0 where
   pub starts : starts_with nat_eq bytes magic ≡ true
   pub arm : is_arm32 bytes ≡ true

@@ -1,4 +1,4 @@
--- Where each part of a file stands.
+-- Where each part of a file is.
 use Rattle.std.proofs.Common.{◌≡◌, ℕ, ◌+◌, ◌-◌, ◌*◌, List, [], ◌∷◌, ◌++◌, length, take, refl, sym, ◌∙◌, arith}
 use Rattle.std.specs.Prelude.{replicate}
 use Rattle.std.specs.List.{flat_map}
@@ -18,7 +18,7 @@ use Rattle.flm_forge.specs.Symbols.{symbol_names, symbol_bytes}
 use Rattle.flm_forge.proofs.PlaceLemmas.{Stands, stands_whole, stands_moved, stands_left, stands_right, length-items}
 use Rattle.flm_forge.proofs.HeaderLemmas.{length-elf_header}
 
--- the parts stand where the sizes say
+-- the parts of a file are where the sizes say
 pub record IsLaidOut (file : List ℕ) (s : Sizes) (all : List SymbolEntry) (code init_data descriptor : List ℕ) : Type 0 where
   pub rest : List ℕ
   pub header : file ≡ elf_header (headers_at s) ++ rest

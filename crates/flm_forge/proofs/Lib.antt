@@ -1,4 +1,4 @@
--- What is read of a file that was made: that it is the FLM file of its listing.
+-- A reader finds in a made file the FLM file of its listing.
 mod WriteLemmas
 mod TextLemmas
 mod PlaceLemmas

@@ -14,7 +14,7 @@ use Rattle.flm_forge.specs.Symbols.{device_symbol, entry_symbol, no_symbol, symb
 use Rattle.flm_forge.proofs.SectionLemmas.{Made}
 use Rattle.flm_forge.proofs.SymbolLemmas.{found_among, symbol_is}
 
--- the symbols where the required entries have theirs
+-- all symbols of a file, with these places of the entries
 abbrev pub listed : (address size init uninit erase_sector program_page : ℕ) (erase_chip verify : Option ℕ) → List SymbolEntry
 listed address size init uninit erase_sector program_page erase_chip verify =
     no_symbol ∷ device_symbol address size ∷ entry_symbol name.Init init ∷ entry_symbol name.UnInit uninit
@@ -77,7 +77,7 @@ unfolding optional_value
 optional_is m n all o is found =
     ap (λ r. from_elf r >>= value_in) (symbol_is m (text_of n) ∙ ap (found_among (text_of n)) is ∙ found) ∙ values_of o
 
--- the values of the symbols
+-- the values of the symbols that a reader finds
 abbrev pub values : (address a b c d : ℕ) (e f : Option ℕ) → Symbols
 values address a b c d e f = record {
   init = thumb a;

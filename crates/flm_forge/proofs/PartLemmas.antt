@@ -1,4 +1,4 @@
--- The parts of a file that was made, as a reader of FLM files finds them.
+-- The parts of a made file, as a reader of FLM files finds them.
 use Rattle.std.proofs.Common.{◌≡◌, ℕ, ◌+◌, ◌-◌, ◌%◌, ◌<◌, ◌≤◌, Bool, true, false, cond, get_or, Option, Some, None, Ok, refl, sym, ap, ◌∙◌, arith, ltb, leb}
 use Rattle.std.specs.Prelude.{◌==◌, codes, is_some}
 use Rattle.std.specs.Option.{option_map}
@@ -45,7 +45,7 @@ header_four : (s : Sizes) → get_or (headers s) 4 no_section ≡ descriptor_hea
 unfolding headers
 header_four s = refl
 
--- the sections that are found
+-- the sections that a reader finds
 abbrev pub read_sections : Sizes → Sections
 read_sections s = record {
   code = read_header (code_header s);
@@ -89,7 +89,7 @@ contents_are m = rw (code_part m, optional_is m (m.sizes.init_data == 0) refl, d
 
 -- ---- places
 
--- a section stands where the one before it ends
+-- a section is where the one before it ends
 end_there : (before : ℕ) (sec : Section) → sec.addr ≡ before → before + sec.size ≤ 0xFFFF_FFFF → end_after before (Some sec) ≡ Ok (before + sec.size)
 end_there before sec at ends =
     let from : ltb sec.addr before ≡ false = not_below sec.addr before (omega arith) in
@@ -110,7 +110,7 @@ size_present : (sec : Section) (b : Bool) → (sec.size == 0) ≡ b → size_or_
 size_present sec true none = sym (eqb-true sec.size 0 none)
 size_present sec false some = refl
 
--- the static base is where the data stands, or the zeroed data where there is none
+-- the static base is the address of the data, or of the zeroed data if there is no data
 base_present : (c : ℕ) (stored zeroed : Section) (b d : Bool) → (stored.size == 0) ≡ b → stored.addr ≡ c → zeroed.addr ≡ c + stored.size
     → cond (is_some (cond b None (Some stored))) (start_or c (cond b None (Some stored))) (start_or (c + stored.size) (cond d None (Some zeroed))) ≡ c
 base_present c stored zeroed true d none at behind = start_present (c + stored.size) zeroed d behind ∙ omega (arith, eqb-true stored.size 0 none)
@@ -142,7 +142,7 @@ not_above a b h = grind (arith, nat_tests)
 is_below : (a b : ℕ) → a < b → ltb a b ≡ true
 is_below a b h = grind (arith, nat_tests)
 
--- an address in a section
+-- an address is within a section
 place_in : (sec : Section) (n : Name) (value address : ℕ) → sec.addr ≤ address → address < sec.addr + sec.size
     → place_of sec n value address ≡ Ok (address - sec.addr)
 place_in sec n value address from to = rw (not_above sec.addr address from, is_below address (sec.addr + sec.size) to) refl
@@ -169,7 +169,7 @@ optional_place m n None even inside = refl
 optional_place m n (Some place) even inside =
     ap (λ r. r >>= λ p. Ok (Some p)) (entry_place m n place (even place refl) (inside place refl))
 
--- the entries stand at even places
+-- the entries are at even places
 pub record AreEven (entries : Entries) : Type 0 where
   pub init : entries.init % 2 ≡ 0
   pub uninit : entries.uninit % 2 ≡ 0

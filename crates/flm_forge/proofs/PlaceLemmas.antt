@@ -1,4 +1,4 @@
--- Parts that stand at a place of some bytes, and what is read there.
+-- Parts at a place of some bytes, and what a reader finds there.
 use Rattle.std.proofs.Common.{◌≡◌, ℕ, ◌+◌, ◌*◌, ◌<◌, ◌≤◌, List, [], ◌∷◌, ◌++◌, take, drop, get_or, length, refl, sym, ap, ◌∙◌, append_assoc, arith}
 use Rattle.std.specs.List.{flat_map}
 use Rattle.std.specs.Int.{w16, w32, from_le_bytes}
@@ -48,7 +48,7 @@ pub stands_drop_more : (bytes part : List ℕ) (at j : ℕ) (s : Stands bytes pa
 stands_drop_more bytes part at j s =
     ap (λ (n : ℕ). drop (n + j) bytes) (sym s.here) ∙ ap (drop (length s.front + j)) s.bytes_are ∙ drop-append-add s.front (part ++ s.rest) j
 
--- the part itself
+-- the bytes of a part at its place are the part
 pub stands_part : (bytes part : List ℕ) (at : ℕ) → Stands bytes part at → take (length part) (drop at bytes) ≡ part
 stands_part bytes part at s = ap (take (length part)) (stands_drop bytes part at s) ∙ take-append_seam part s.rest
 
@@ -56,7 +56,7 @@ pub stands_inside : (bytes part : List ℕ) (at : ℕ) → Stands bytes part at 
 stands_inside bytes part at s =
     omega (arith, s.here, ap length s.bytes_are, length-append s.front (part ++ s.rest), length-append part s.rest)
 
--- fields in it
+-- a field of a part is the same field of the whole bytes
 pub stands_word : (bytes part : List ℕ) (at j : ℕ) (s : Stands bytes part at) → word bytes (at + j) ≡ word (part ++ s.rest) j
 unfolding word
 stands_word bytes part at j s = ap (λ (r : List ℕ). from_le_bytes w32 (take 4 r)) (stands_drop_more bytes part at j s)
@@ -69,7 +69,7 @@ pub stands_half : (bytes part : List ℕ) (at j : ℕ) (s : Stands bytes part at
 unfolding half
 stands_half bytes part at j s = ap (λ (r : List ℕ). from_le_bytes w16 (take 2 r)) (stands_drop_more bytes part at j s)
 
--- one item among others whose bytes are as many
+-- one item among others of the same length
 flat_map_split : {X : Type 0} (f : X → List ℕ) (xs : List X) (k : ℕ) (d : X) → k < length xs
     → flat_map f xs ≡ flat_map f (take k xs) ++ (f (get_or xs k d) ++ flat_map f (drop (k + 1) xs))
 flat_map_split f xs k d less =

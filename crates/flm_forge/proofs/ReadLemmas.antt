@@ -1,4 +1,4 @@
--- A file that was made is the FLM file of its listing's algorithm.
+-- A made file is the FLM file of its listing's algorithm.
 use Rattle.std.proofs.Common.{◌≡◌, ℕ, ◌<◌, ◌^◌, ◌%◌, List, [], ◌∷◌, ◌++◌, Option, Some, refl, ap, arith}
 use Rattle.std.specs.Prelude.{All}
 use Rattle.armv6m_asm.specs.declared.code.Code.{Code}
@@ -30,7 +30,7 @@ pub record NumbersFit (l : Listing) (code : Code) : Type 0 where
 abbrev pub AreEvenLabels : Code → Type 0
 AreEvenLabels code = All (λ (label : Label). label.place % 2 ≡ 0) code.labels
 
--- the symbols of the entries, where the required ones are there
+-- the symbols of the entries that have a place
 abbrev pub shown_symbols : (a b c d e f : Option ℕ) → List SymbolEntry
 shown_symbols a b c d e f =
     symbol_if name.Init a ++ (symbol_if name.UnInit b ++ (symbol_if name.EraseSector c ++ (symbol_if name.ProgramPage d
@@ -49,7 +49,7 @@ symbols_listed : (l : Listing) (code : Code) (e : Entries) → AreEntries code.l
 symbols_listed l code e are =
     ap (λ (es : List SymbolEntry). no_symbol ∷ device_symbol (descriptor_addr (sizes_of l code)) (sizes_of l code).descriptor ∷ es) (entries_shown l code e are)
 
--- the file that is made, with its parts
+-- the made file, with its parts
 abbrev made : (l : Listing) (code : Code) → end_of (sizes_of l code) < 2 ^ 32 → NumbersFit l code → Made
 made l code fits numbers = record {
   file = file_of l code;

@@ -6,7 +6,7 @@ use Rattle.std.specs.List.{range_with_len}
 use Rattle.elf32.specs.Search.{first_below}
 use Rattle.elf32.proofs.SearchLemmas.{first_below-zero, first_below-more}
 
--- tests that agree below a number find the same
+-- tests that agree below a number have the same first number that passes
 pub first_below-same : (p q : ℕ → Bool) (n : ℕ) → ((k : ℕ) → k < n → p k ≡ q k) → first_below p n ≡ first_below q n
 first_below-same p q zero same = first_below-zero p ∙ sym (first_below-zero q)
 first_below-same p q (suc n) same =
@@ -25,7 +25,7 @@ find_shifted p a (suc n) =
     elim (p (suc a)) as (λ b. cond b (Some (suc a)) (find p (range_with_len (suc a + 1) n))
     ≡ option_map (λ k. suc k) (cond b (Some a) (find (λ k. p (suc k)) (range_with_len (a + 1) n)))) [ true ↦ refl | false ↦ later ]
 
--- the first number, or one that is found from 1 on
+-- the first number that passes is 0, or the first one from 1 on
 pub first_below-shift : (p : ℕ → Bool) (n : ℕ) → first_below p (suc n) ≡ cond (p 0) (Some 0) (option_map (λ k. suc k) (first_below (λ k. p (suc k)) n))
 unfolding first_below
 first_below-shift p n = ap (λ o. cond (p 0) (Some 0) o) (find_shifted p 0 n)

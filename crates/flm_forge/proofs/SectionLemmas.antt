@@ -1,4 +1,4 @@
--- What is read of the sections of a file that was made.
+-- What a reader finds of the sections of a made file.
 use Rattle.std.proofs.Common.{◌≡◌, ℕ, ◌+◌, ◌*◌, ◌<◌, ◌^◌, true, List, [], ◌∷◌, length, get_or, Some, None, refl, sym, ap, ◌∙◌, arith}
 use Rattle.std.specs.Prelude.{◌==◌, ◌&&◌, All, map, is_none, Ok}
 use Rattle.std.specs.Option.{option_map}
@@ -30,7 +30,7 @@ pub record SymbolFits (e : SymbolEntry) : Type 0 where
   pub size : e.size < 2 ^ 32
   pub section : e.section < 2 ^ 16
 
--- a file with its parts, whose places fit 32-bit fields
+-- a file with its parts, at places that fit 32-bit fields
 pub record Made : Type 0 where
   pub file : List ℕ
   pub sizes : Sizes
@@ -92,7 +92,7 @@ header_stands m k less =
     (omega (arith, length-headers m.sizes)))
     (ap (λ (n : ℕ). n + 40 * k) (sym (facts_of m).shoff))
 
--- section header `k`
+-- a reader finds section header `k`
 pub section_is : (m : Made) (k : ℕ) → k < 8 → section_at m.file k ≡ read_header (header_at m k)
 section_is m k less = section_at-read m.file k (header_at m k) (header_stands m k less) (header_fits m k less)
 
@@ -196,7 +196,7 @@ found_section m text kind i less found =
     ∙ first_below-same (tables.is_section m.file text kind) (has_name_and_kind text kind) 8 agree ∙ found)
     ∙ ap Some (section_is m i less)
 
--- the first table of symbols
+-- the first symbol table that a reader finds
 pub found_table : (m : Made) (i : ℕ) → i < 8 → first_below (λ k. get_or kinds k 0 == 2) 8 ≡ Some i
     → tables.symbol_table m.file ≡ Some (read_header (header_at m i))
 unfolding tables.symbol_table

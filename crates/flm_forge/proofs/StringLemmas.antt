@@ -8,7 +8,7 @@ use Rattle.flm_descriptor.specs.Parts.{text_of}
 use Rattle.flm_forge.specs.Sections.{section_names}
 use Rattle.flm_forge.specs.Symbols.{symbol_names, name_at}
 
--- where the names of the sections begin, and their types
+-- the offsets of the names of the sections, and their types
 abbrev pub places : List ℕ
 places = 0 ∷ 1 ∷ 9 ∷ 9 ∷ 17 ∷ 25 ∷ 33 ∷ 41 ∷ []
 

@@ -1,4 +1,4 @@
--- What is read of the symbols of a file that was made.
+-- What a reader finds of the symbols of a made file.
 use Rattle.std.proofs.Common.{◌≡◌, ℕ, suc, ◌+◌, ◌*◌, ◌/◌, ◌<◌, ◌≤◌, ◌^◌, Bool, true, false, cond, List, [], ◌∷◌, ◌++◌, length, get_or, Option, Some, None}
 use Rattle.std.proofs.Common.{Result, Ok, Err, refl, sym, ap, ◌∙◌, arith}
 use Rattle.std.specs.Prelude.{◌==◌, ◌&&◌, ◌||◌, not, All, is_none}
@@ -71,7 +71,7 @@ ends_at text e = is_none (string_at symbol_names e.name) || (is_name text (strin
 abbrev pub answer_at : SymbolEntry → Result (Option Symbol) ElfFault
 answer_at e = cond (is_none (string_at symbol_names e.name)) (Err (BadName e.name)) (Ok (Some (read_symbol e)))
 
--- what is found among some symbols
+-- the answer of a search among some symbols
 abbrev pub found_among : List ℕ → List SymbolEntry → Result (Option Symbol) ElfFault
 found_among text [] = Ok None
 found_among text (e ∷ es) = cond (ends_at text e) (answer_at e) (found_among text es)
@@ -90,7 +90,7 @@ answer_read bytes e at s fits =
     ap (λ (n : ℕ). cond (is_none (string_at symbol_names n)) (Err (BadName n)) (Ok (Some (symbol_at bytes at)))) (name_read bytes e at s fits)
     ∙ ap (λ found. cond (is_none (string_at symbol_names e.name)) (Err (BadName e.name)) (Ok (Some found))) (symbol_read bytes e at s fits)
 
--- the answer of a search that goes on one symbol later
+-- the answer of a search that continues one symbol later
 answer_later : (bytes : List ℕ) (at : ℕ) (o : Option ℕ)
     → tables.search_answer bytes symbol_names at (option_map (λ k. suc k) o) ≡ tables.search_answer bytes symbol_names (at + 16) o
 answer_later bytes at None = refl

@@ -1,4 +1,4 @@
--- The text of some lines part by part, and the items of runs of sectors.
+-- The text of some lines, part by part, and the items of runs of sectors.
 use Rattle.std.proofs.Common.{◌≡◌, ℕ, ◌+◌, ◌*◌, ◌<◌, ◌≤◌, List, [], ◌∷◌, ◌++◌, length, drop, get_or, refl, sym, ap, ◌∙◌, append_assoc}
 use Rattle.std.proofs.lemmas.Grind.{flat_map-append}
 use Rattle.std.proofs.lemmas.List.{append-nil, drop_all, drop_more}
@@ -47,7 +47,7 @@ text_split kind base =
 
 -- ---- items
 
--- the item of one run more
+-- the items of the runs from one on are the item of that run and those after it
 pub items_more : (runs : List SectorRun) (i offset : ℕ) (d : SectorRun) (made : List SectorItem) → i < length runs
     → (made ++ record { size = (get_or runs i d).size; offset = offset } ∷ []) ++ items_from (offset + (get_or runs i d).count * (get_or runs i d).size)
     (drop (i + 1) runs)
@@ -62,7 +62,7 @@ pub cells_more : (runs : List SectorRun) (i : ℕ) (d : SectorRun) → i < lengt
 cells_more runs i d less =
     ap cells_of (drop_more runs i d less) ∙ sum_by-cons (λ (r : SectorRun). r.count * r.size) (get_or runs i d) (drop (i + 1) runs)
 
--- no run is left
+-- no items are left when no run is left
 pub items_end : (runs : List SectorRun) (i offset : ℕ) (made : List SectorItem) → length runs ≤ i → made ++ items_from offset (drop i runs) ≡ made
 unfolding items_from
 items_end runs i offset made past = ap (λ (rs : List SectorRun). made ++ items_from offset rs) (drop_all i runs past) ∙ append-nil made

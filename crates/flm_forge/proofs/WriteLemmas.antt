@@ -7,7 +7,7 @@ use Rattle.std.proofs.lemmas.List.{append-nil, replicate_more, take_all, take_mo
 use Rattle.std.proofs.lemmas.Grind.{flat_map-append}
 use Rattle.flm_forge.specs.Device.{name_field}
 
--- the bytes of one item more
+-- the bytes after one item more
 pub one_more : {X : Type 0} (f : X → List ℕ) (xs : List X) (i : ℕ) (d : X) (out new start : List ℕ)
     → i < length xs → out ≡ start ++ flat_map f (take i xs) → new ≡ out ++ f (get_or xs i d)
     → new ≡ start ++ flat_map f (take (i + 1) xs)
@@ -38,7 +38,7 @@ pub ten_parts : (p1 p2 p3 p4 p5 p6 p7 p8 p9 p10 o1 o2 o3 o4 o5 o6 o7 o8 o9 o10 :
 ten_parts p1 p2 p3 p4 p5 p6 p7 p8 p9 p10 o1 o2 o3 o4 o5 o6 o7 o8 o9 o10 e1 e2 e3 e4 e5 e6 e7 e8 e9 e10 =
     rw (e10, e9, e8, e7, e6, e5, e4, e3, e2, e1) (simp append_assoc)
 
--- a name of at most 128 bytes, or the first 128, and zeros
+-- the part of a name that is written: all of it, or its first 128 bytes
 name_taken : (text : List ℕ) (len : ℕ) → len ≡ min (length text) 128 → take len text ≡ take 128 text
 name_taken text len short = ⊎_elim
     (λ (below : length text < 128).
@@ -54,7 +54,7 @@ name_parts text len start middle new short first last =
     let named = name_taken text len short in
     rw (last, first, left, named) (append_assoc start (take 128 text) (replicate (128 - length text) 0))
 
--- one zero more
+-- the bytes after one zero more
 pub zeros_more : (count : ℕ) (start out new : List ℕ) → out ≡ start ++ replicate count 0 → new ≡ out ++ 0 ∷ [] → new ≡ start ++ replicate (count + 1) 0
 zeros_more count start out new before added =
     added ∙ ap (λ (r : List ℕ). r ++ 0 ∷ []) before ∙ append_assoc start (replicate count 0) (0 ∷ []) ∙ ap (λ (r : List ℕ). start ++ r) (replicate_more count 0)

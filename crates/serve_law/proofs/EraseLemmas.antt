@@ -37,7 +37,7 @@ running c a w place t = record (unlocked c a) { operation = Some (record { work 
 abbrev settled : ℕ → ℕ → UnitState
 settled c a = resting (record (regs c a) { done = true })
 
--- the core within the erasing functions
+-- the core within the erase functions
 abbrev erase_core : Given → ℕ → ℕ → ℕ → Bool → Bool → ℕ → Core
 erase_core g r0 r1 r2 n z pc = record {
   regs = r0 ∷ r1 ∷ r2 ∷ 0x40022000 ∷ 0 ∷ 0 ∷ 0 ∷ 0 ∷ 0 ∷ 0x200000B0 ∷ 0 ∷ 0 ∷ 0 ∷ (0x20000000 + need g) % 2 ^ 32 ∷ 0x20000001 ∷ pc ∷ [];
@@ -50,7 +50,7 @@ erase_core g r0 r1 r2 n z pc = record {
 
 module _ (g : Given) (r : Option (ℕ × ℕ)) (r0 c a place : ℕ) (w : Work) (ram : List ℕ) (home : IsHome 0x20000000 ram)
     (lies : OpensIn r (Some (place, work_len w))) where
-  -- before the load of the status
+  -- the point before the load of the status
   abbrev pub waiting : ℕ → UnitState → List ℕ → Point
   waiting r2 st cells = record { core = erase_core g r0 1 r2 false false 0x20000046; world = a1_world g ram st cells }
 
@@ -92,7 +92,7 @@ module _ (g : Given) (r : Option (ℕ × ℕ)) (r0 c a place : ℕ) (w : Work) (
   wait_bound (suc (suc (suc (suc t)))) = omega (arith, wait_bound (suc t))
   wait_bound t = omega arith
 
-  -- from the settled operation to the return
+  -- the point of return after the operation is settled
   abbrev returned : List ℕ → Point
   returned cells = record { core = record (erase_core g 0 1 0x1E false true 0x20000000) { c = true }; world = a1_world g ram (unlocked c a) cells }
 
@@ -118,7 +118,7 @@ module _ (g : Given) (r : Option (ℕ × ℕ)) (r0 c a place : ℕ) (w : Work) (
   erase_bound (suc (suc t)) = omega (arith, wait_bound (suc t))
   erase_bound e = omega arith
 
--- a sector of the region
+-- EraseSector of a sector of the region
 module _ (g : Given) (x : Range) (c a : ℕ) (ram cells : List ℕ) (home : IsHome 0x20000000 (written 176 [] ram)) (quick : IsQuick g)
     (is : sector_of (a1_area g ∷ []) (g.runs ++ []) (0x08000000 + x.start) ≡ Some (record { place = x.start; len = len_of x; empty = g.empty }))
     (ordered : x.start ≤ x.stop) where
@@ -159,7 +159,7 @@ module _ (g : Given) (x : Range) (c a : ℕ) (ram cells : List ℕ) (home : IsHo
   abbrev stepped_at : Option SectorCells → Stepped World
   stepped_at o = outcome (answer_at o) (instruction (after_in 5 first).core) (after_in 5 first).core (after_in 5 first).world
 
-  -- whatever lies there, it goes
+  -- the sixth instruction continues, whatever is at the address
   sixth_goes : (o : Option SectorCells) → goes_by (answer_at o) (after_in 5 first) ≡ true
   unfolding computed first_point
   sixth_goes None = refl
@@ -190,7 +190,7 @@ module _ (g : Given) (x : Range) (c a : ℕ) (ram cells : List ℕ) (home : IsHo
   pub sector_done : IsDone (a1_setup g) start request r (a1_world g (written 176 [] ram) (unlocked 2 at) (written x.start (replicate (len_of x) g.empty) cells))
   sector_done = run_done (a1_setup g) start request r steps end refl enough runs refl refl _ refl refl
 
--- the whole region
+-- EraseChip of the whole region
 module _ (g : Given) (c a : ℕ) (ram cells : List ℕ) (home : IsHome 0x20000000 (written 176 [] ram)) (quick : IsQuick g) (many : 0 < sector_count g)
     (full : length cells ≡ g.size) where
   abbrev chip_request : Request

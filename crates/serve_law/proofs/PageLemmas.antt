@@ -47,7 +47,7 @@ page_core low r0 r1 r2 r5 n z c v pc = record {
   primask = false;
 }
 
--- command 1, no flag but perhaps DONE
+-- the controller with command 1, and no flag but perhaps DONE
 abbrev ready : ℕ → Bool → UnitState
 ready a d = resting (record (regs 1 a) { done = d })
 
@@ -75,7 +75,7 @@ module _ (g : Given) (r : Option (ℕ × ℕ)) (a low : ℕ) (ram : List ℕ) (f
   abbrev at_pc : ℕ → ℕ → ℕ → ℕ → ℕ → Bool → Bool → Bool → Bool → UnitState → List ℕ → Point
   at_pc pc r0 r1 r2 r5 n z c v st cells = record { core = page_core low r0 r1 r2 r5 n z c v pc; world = a1_world g ram st cells }
 
-  -- waiting for one unit
+  -- the steps that wait for one unit
   module _ (r0 r1 r2 value p : ℕ) (c v : Bool) (lies : OpensIn r (Some (p, 2))) where
     abbrev polling : ℕ → Bool → Bool → UnitState → List ℕ → Point
     polling r5 n z st cells = at_pc 0x2000006C r0 r1 r2 r5 n z c v st cells
@@ -123,7 +123,7 @@ module _ (g : Given) (r : Option (ℕ × ℕ)) (a low : ℕ) (ram : List ℕ) (f
               (lies, lies, (lies, lies, (lies, lies, tt)))) rest.1,
         )
 
-    -- from the settled unit to the next
+    -- the steps from a settled unit to the head of the loop
     settles : (r5 : ℕ) (n z : Bool) (cells : List ℕ) → Goes r 10 (polling r5 n z (ready a true) cells)
         (at_pc 0x20000064 (sum_with_carry r0 2 false).value (subtraction r1 2).value (sum_with_carry r2 2 false).value 0
         (nat_le (2 ^ 31) (subtraction r1 2).value) (nat_eq (subtraction r1 2).value 0) (subtraction r1 2).carry (subtraction r1 2).overflow
@@ -143,7 +143,7 @@ module _ (g : Given) (r : Option (ℕ × ℕ)) (a low : ℕ) (ram : List ℕ) (f
   unfolding computed all_idle
   falls r0 r1 r2 r5 n c v st cells = idle_goes r 1 (at_pc 0x20000066 r0 r1 r2 r5 n false c v (ready a st) cells) frame.home refl refl
 
-  -- the load of a unit from the buffer
+  -- the step that loads a unit from the buffer
   reads : (r0 r1 b r5 : ℕ) (n z c v st : Bool) (cells : List ℕ) → b % 2 ≡ 0 → b + 2 ≤ length ram →
       Goes r 1 (at_pc 0x20000068 r0 r1 (0x20000000 + b) r5 n z c v (ready a st) cells)
       (at_pc 0x2000006A r0 r1 (0x20000000 + b) (value_at ram 2 b) n z c v (ready a st) cells)
@@ -160,7 +160,7 @@ module _ (g : Given) (r : Option (ℕ × ℕ)) (a low : ℕ) (ram : List ℕ) (f
       (ram_loads p.world 2 (0x20000000 + b) (omega arith) (omega (arith, within)) ∙ ap (λ (x : ℕ). (Ok (value_at ram 2 x), p.world)) place))
       tt tt
 
-  -- the store of a unit to the flash
+  -- the step that stores a unit to the flash
   flash_row : (d : Bool) (p value : ℕ) (cells : List ℕ) → p < g.size → all_are g.empty (cells_at cells p 2) ≡ true →
       store_row any_table (a1_map g) (ready a d) cells (0x08000000 + p) 2 value ≡ (Ok tt, busy a d value p g.program_ticks)
   unfolding store_row program
@@ -193,7 +193,7 @@ module _ (g : Given) (r : Option (ℕ × ℕ)) (a low : ℕ) (ram : List ℕ) (f
       (unit_stores q.world 2 (0x08000000 + p) value (omega (arith, frame.flash)) ∙ flash_answer d p value cells inside blank))
       tt lies
 
-  -- the return
+  -- the steps of the return
   module _ (r0 r1 r2 r5 : ℕ) (n z c v : Bool) (cells : List ℕ) where
     abbrev here : Point
     here = at_pc 0x2000008A r0 r1 r2 r5 n z c v (unlocked 1 a) cells
@@ -236,7 +236,7 @@ module _ (g : Given) (r : Option (ℕ × ℕ)) (a low : ℕ) (ram : List ℕ) (f
     unfolding tick_row
     pops = step_by r here 0x2000008A (popped (word_at ram low) (word_at ram (low + 4)) 0x20000000) here.world refl frame.home refl pop_does tt tt
 
-  -- from the head of the loop with no byte left
+  -- the steps from the head of the loop with no byte left
   ends : (r0 r2 r5 : ℕ) (n z c v d : Bool) (cells : List ℕ) → Goes r 6 (at_pc 0x20000064 r0 0 r2 r5 n z c v (ready a d) cells)
       (here 0 0 r2 0x1E false false true false cells)
   unfolding computed all_idle
@@ -264,7 +264,7 @@ module _ (g : Given) (r : Option (ℕ × ℕ)) (a low : ℕ) (ram : List ℕ) (f
     leaves = refl;
   }
 
-  -- a part of a run before one that returns
+  -- a run before a run that returns also returns
   then_returns : (n m : ℕ) (p q : Point) (cells : List ℕ) → Goes r n p q → Returns m q cells → Returns (n + m) p cells
   then_returns n m p q cells one two = record {
     last = two.last;
@@ -274,7 +274,7 @@ module _ (g : Given) (r : Option (ℕ × ℕ)) (a low : ℕ) (ram : List ℕ) (f
     leaves = two.leaves;
   }
 
-  -- the units
+  -- the steps for each unit
   begun_steps : ℕ → ℕ
   begun_steps (suc (suc t)) = poll_steps (suc t) + 10
   begun_steps x = 10
@@ -294,7 +294,7 @@ module _ (g : Given) (r : Option (ℕ × ℕ)) (a low : ℕ) (ram : List ℕ) (f
   unit_bound t (suc (suc n)) = grind (arith, unit_bound t n, begun_bound t)
   unit_bound t n = omega arith
 
-  -- a unit that was begun, to the head of the loop
+  -- the steps from the begin of a unit to the head of the loop
   module _ (r1 b value p : ℕ) (n z c v : Bool) (lies : OpensIn r (Some (p, 2))) where
     abbrev begun : Bool → ℕ → List ℕ → Point
     begun d t cells = record {
@@ -321,7 +321,7 @@ module _ (g : Given) (r : Option (ℕ × ℕ)) (a low : ℕ) (ram : List ℕ) (f
     begun_goes d t cells = settles (0x08000000 + p) r1 (0x20000000 + b) value p c v lies value n z
         (left (0x08000000 + p) r1 (0x20000000 + b) value p c v lies cells)
 
--- what a page needs before the rest of its bytes is programmed
+-- what holds before the rest of a page's bytes is programmed
 pub record Rest (g : Given) (x : Range) (ram : List ℕ) (p b : ℕ) (bytes cells : List ℕ) : Type 0 where
   pub even : length bytes % 2 ≡ 0
   pub place_even : p % 2 ≡ 0
@@ -335,7 +335,7 @@ pub record Rest (g : Given) (x : Range) (ram : List ℕ) (p b : ℕ) (bytes cell
   pub blank : (j : ℕ) → p ≤ j → j < p + length bytes → slice_index cells j ≡ g.empty
   pub few : length bytes < 2 ^ 31
 
--- the rest after one unit
+-- what holds before the rest, after one unit more
 module _ (g : Given) (x : Range) (ram : List ℕ) (p b y z : ℕ) (bytes cells : List ℕ) (rest : Rest g x ram p b (y ∷ z ∷ bytes) cells) where
   abbrev put : List ℕ
   put = written p (y ∷ z ∷ []) cells
@@ -432,7 +432,7 @@ module _ (g : Given) (x : Range) (a low : ℕ) (ram : List ℕ) (frame : IsFrame
 
 -- The call.
 
--- the bytes fit the page, which is empty
+-- the bytes fit the page, and the page is empty
 pub record PageFits (g : Given) (x : Range) (bytes cells : List ℕ) : Type 0 where
   pub even : length bytes % 2 ≡ 0
   pub some : 0 < length bytes
@@ -470,7 +470,7 @@ module _ (g : Given) (x : Range) (bytes : List ℕ) (c a0 : ℕ) (ram cells : Li
   abbrev pub ram0 : List ℕ
   ram0 = written 176 bytes ram
 
-  -- what is pushed: R4, R5 and LR
+  -- the registers that are pushed: R4, R5 and LR
   abbrev saved : List ℕ
   saved = 0 ∷ 0 ∷ 0x20000001 ∷ []
 
@@ -507,7 +507,7 @@ module _ (g : Given) (x : Range) (bytes : List ℕ) (c a0 : ℕ) (ram cells : Li
       words_before ram0 base saved (176 + j) (omega (arith, above, below))
       ∙ written_in 176 bytes ram j (omega (arith, is_ram.size, fit.room, fits.page)) below) fits.small
 
-  -- the stack pointer before
+  -- the stack pointer before the push
   abbrev sp : ℕ
   sp = (0x20000000 + need g) % 2 ^ 32
 

@@ -36,7 +36,7 @@ module _ {B M : Type 0} (p : Pages) (answers : Answering B) (Agrees : M → B �
   pub none_goes : (r r' : Stepped B) → Goes None r r'
   none_goes r r' x e went = cc
 
-  -- where a mark decides
+  -- an instruction that has marks only if a mark is known
   pub only_goes : (k : Bool) (x : Option (Marks M)) (r r' : Stepped B) → (k ≡ true → Goes x r r') → Goes (only_if k x) r r'
   only_goes true x r r' step = step refl
   only_goes false x r r' step = none_goes r r'
@@ -46,7 +46,7 @@ module _ {B M : Type 0} (p : Pages) (answers : Answering B) (Agrees : M → B �
   then_goes None f r r' step = none_goes r r'
   then_goes (Some v) f r r' step = step v refl
 
-  -- an instruction without accesses
+  -- an instruction without accesses agrees in both runs
   pub given_goes : (x : Option CoreMarks) (m : M) (core core' : Core) (b b' : B) (o o' : Outcome) → Agrees m b b' → Lockstep p x o o' →
       Goes (with_bus m x) (given core b o) (given core' b' o')
   given_goes None m core core' b b' o o' agrees step = none_goes _ _
@@ -64,7 +64,7 @@ module _ {B M : Type 0} (p : Pages) (answers : Answering B) (Agrees : M → B �
   abbrev stopped : Access → Core → B → BusEnd → Stepped B
   stopped access core b e = record { ends = access_end access e; core = core; bus = b }
 
-  -- a load that is answered
+  -- an instruction that begins with an answered load agrees in both runs
   load_answered : (x : Option (Marks M)) (width at : ℕ) (then' then'' : ℕ → Meaning) (core core' : Core) (b b' c c' : B) (k : Mark) (a a' : Result ℕ BusEnd) →
       c ≡ b → c' ≡ b' → ((v : ℕ) → a ≡ Ok v → LoadAgrees p k v a')
       → ((v v' : ℕ) → a ≡ Ok v → Says p k v v' → Goes x (outcome answers (then' v) core b) (outcome answers (then'' v') core' b'))

@@ -22,7 +22,7 @@ words bytes x =
     let f : slice_index bytes (x + 2 + 1) ≡ slice_index bytes (x + 3) = ap (slice_index bytes) e in
     omega (arith, f)
 
--- they stand `by` apart in the number
+-- two numbers of a page that follow each other make one number, where the second has the weight `by`
 abbrev Folds : ℕ → ℕ → Type 0
 Folds by width = (bytes : List ℕ) (x : ℕ) → value_at bytes width x + by * value_at bytes width (x + width) ≡ value_at bytes (width + width) x
 
@@ -70,11 +70,11 @@ module _ (p : Pages) (ms : List Mark) (bytes bytes' : List ℕ) (agree : BytesAg
   number_by false true i = half_says i
   number_by false false i = word_says i
 
-  -- what a load reads
+  -- the mark of a loaded number is right
   pub number_says : (width i : ℕ) → Says p (number_mark ms width i) (value_at bytes width i) (value_at bytes' width i)
   number_says width i = number_by (nat_eq width 1) (nat_eq width 2) i
 
--- one byte is stored
+-- the marks stay right after one byte is stored
 set_agrees : (p : Pages) (ms : List Mark) (bytes bytes' : List ℕ) (i : ℕ) (k : Mark) (v v' : ℕ) → BytesAgree p ms bytes bytes' → Says p k v v' →
     BytesAgree p (slice_set ms i k) (slice_set bytes i v) (slice_set bytes' i v')
 set_agrees p ms bytes bytes' i k v v' agree says = record {
@@ -101,7 +101,7 @@ set_agrees p ms bytes bytes' i k v v' agree says = record {
       (cases_lt i (length ms));
 }
 
--- the bytes of a number that is stored whole
+-- the bytes of a stored number
 
 pub half_parts : (bytes : List ℕ) (x v : ℕ) → ((k : ℕ) → slice_index bytes k < 2 ^ 8) → v ≡ value_at bytes 2 x →
     (v % 0x100 ≡ slice_index bytes (x + 0)) × (v / 0x100 ≡ slice_index bytes (x + 1))
@@ -174,7 +174,7 @@ with_by p are ms bytes bytes' i k v v' agree says false false =
     (part_says p 4 3 k v v' (λ n. n / 0x1000000) says (λ x is. (word_parts p.here x v are.here is).fourth)
     (λ x is. (word_parts p.there x v' are.there is).fourth))
 
--- what a store leaves
+-- the marks are right after a store
 pub with_agrees : (p : Pages) → ArePages p → (ms : List Mark) (bytes bytes' : List ℕ) (width i : ℕ) (k : Mark) (v v' : ℕ) → BytesAgree p ms bytes bytes' →
     Says p k v v' →
     BytesAgree p (marks_with ms width i k) (bytes_with bytes width i v) (bytes_with bytes' width i v')

@@ -1,4 +1,4 @@
--- A loop over the registers of a list goes through the marks of its accesses.
+-- A loop over the registers of a list computes the marks after each of its accesses.
 use Rattle.std.proofs.Common.{◌≡◌, ℕ, Option, Some, None, [], ◌∷◌, refl, ap}
 use Rattle.armv6m_step.specs.declared.core_state.Core.{Core}
 use Rattle.armv6m_step.specs.Numbers.{sum}

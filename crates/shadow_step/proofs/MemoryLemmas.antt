@@ -40,7 +40,7 @@ module _ {B M : Type 0} (p : Pages) (bytes : ArePages p) (answers : Answering B)
   abbrev pub Go : Option (Marks M) → Meaning → Meaning → Core → Core → B → B → Type 0
   Go x then' then'' core core' b b' = Goes p answers Agrees s is x (outcome answers then' core b) (outcome answers then'' core' b')
 
-  -- an instruction that goes on to the next one
+  -- an instruction that continues with the next one
   went_goes : (t : CoreMarks) (m : M) (f f' core core' : Core) (b b' : B) (next next' : ℕ) → next' ≡ next → CoreAgrees p t f f' → Agrees m b b' →
       Go (Some (marks (gone t) m)) (went f next) (went f' next') core core' b b'
   went_goes t m f f' core core' b b' next next' follows filled bus =
@@ -54,7 +54,7 @@ module _ {B M : Type 0} (p : Pages) (bytes : ArePages p) (answers : Answering B)
 
   module _ (t : CoreMarks) (core core' : Core) (next next' : ℕ) (agrees : CoreAgrees p t core core') (follows : next' ≡ next) (m : M) (b b' : B)
       (bus : Agrees m b b') where
-    -- one register
+    -- loads and stores of one register
 
     loaded_goes : (k : Bool) (width at at' d : ℕ) (f : Mark → Mark) (g : ℕ → ℕ) → (k ≡ true → at' ≡ at)
         → ((x : Mark) (v v' : ℕ) → Says p x v v' → Says p (f x) (g v) (g v'))
@@ -116,7 +116,7 @@ module _ {B M : Type 0} (p : Pages) (bytes : ArePages p) (answers : Answering B)
     memory_goes at (StrSp d i) = stored_goes (known t SP) 4 _ _ _ _ _ (beside SP (4 * i)) (word d)
     memory_goes at (LdrSp d i) = loaded_goes (known t SP) 4 _ _ d whole (λ v. v) (beside SP (4 * i)) as_it_is
 
-  -- a list of registers
+  -- loads and stores of a list of registers
 
   in_turn : {A C : Type 0} (a : Option A) (f : A → Option C) (x : C → Option (Marks M)) (r r' : Stepped B) →
       ((v : A) → a ≡ Some v → Goes p answers Agrees s is (and_then (f v) x) r r') → Goes p answers Agrees s is (and_then (and_then a f) x) r r'

@@ -29,7 +29,7 @@ use Rattle.shadow_step.specs.Rows.{Lockstep, known, both, comparable, value_mark
 use Rattle.shadow_step.specs.Rows.{alu_marks}
 use Rattle.shadow_step.proofs.MarkLemmas.{known_same, says_if, operand_says, operand_same, put_agrees, gone_agrees, nz_agrees, carry_agrees, nzcv_agrees}
 
--- a number of at most four bytes of a page
+-- a number of at most four bytes of a page is below 2^32
 part_small : (bytes : List ℕ) (w i : ℕ) → ((k : ℕ) → slice_index bytes k < 2 ^ 8) → value_at bytes w i < 2 ^ 32
 part_small bytes w i small =
     let a : slice_index bytes i < 2 ^ 8 = small i in
@@ -73,7 +73,7 @@ some_amount : (i : ℕ) → nat_eq (shift_amount i) 0 ≡ false
 some_amount i = some_by i (nat_eq i 0) refl
 
 module _ (p : Pages) (t : CoreMarks) (core core' : Core) (next next' : ℕ) (agrees : CoreAgrees p t core core') (follows : next' ≡ next) where
-  -- the forms of the rows
+  -- each form of row keeps both runs in lockstep
 
   value_agrees : (d : ℕ) (k : Bool) (v v' : ℕ) → (k ≡ true → v' ≡ v) → Lockstep p (value_marks t d k) (value_into core next d v) (value_into core' next' d v')
   value_agrees d k v v' same = gone_agrees p _ _ _ (nz_agrees p _ _ _ (put_agrees p t core core' agrees d _ v v' (says_if p k v v' same)) k v v' same) next
@@ -127,7 +127,7 @@ module _ (p : Pages) (t : CoreMarks) (core core' : Core) (next next' : ℕ) (agr
   unless_ended true mt e e' o o' step = ends mt e (Err e')
   unless_ended false mt e e' o o' step = step
 
-  -- the operands
+  -- functions of known operands are the same in both runs
 
   one : {X : Type 0} (f : ℕ → X) (n : ℕ) → known t n ≡ true → f (reg core' n) ≡ f (reg core n)
   one f n k = ap f (operand_same p t core core' agrees n k)
@@ -143,7 +143,7 @@ module _ (p : Pages) (t : CoreMarks) (core core' : Core) (next next' : ℕ) (agr
       let parts : (both t n m ≡ true) × (t.c ≡ true) = and_parts _ _ k in
       two (λ x y. f x y core'.c) n m parts.0 ∙ ap (λ (b : Bool). f (reg core n) (reg core m) b) (agrees.c parts.1)
 
-  -- the difference of two operands is known where each is, and where they are the same bytes of the page
+  -- the difference of two operands is known if each is known, or if they are the same bytes of the page
   parts_same : ArePages p → (a b : Mark) (v v' u u' : ℕ) → same_part a b ≡ true → Says p a v v' → Says p b u u' → subtraction v' u' ≡ subtraction v u
   parts_same bytes (Page w i) (Page x j) v v' u u' same l r =
       let e : (nat_eq w x ≡ true) × (nat_eq i j ≡ true) = and_parts _ _ same in

@@ -73,7 +73,7 @@ module _ {B M : Type 0} (p : Pages) (bytes : ArePages p) (answers : Answering B)
       (λ x. of_pair core (decoded_pair half x)) (λ x. of_pair core' (decoded_pair half x)) (after 2) (fetches refl) (pair_goes (decoded_pair half second))
   half_goes half second decoded_as.Undefined fetches = none_goes p answers Agrees s is _ _
 
--- one instruction, by the halfwords that the run at hand fetches
+-- one instruction in both runs, by the halfwords that the run at hand fetches
 pub step_follows : {B M : Type 0} (p : Pages) → ArePages p → (answers : Answering B) (Agrees : M → B → B → Type 0) (s : Shadow M) →
     IsShadow p answers Agrees s →
     (t : CoreMarks) (m : M) (core core' : Core) (b b' : B) → CoreAgrees p t core core' → Agrees m b b'
