@@ -1,4 +1,4 @@
-//! The limits on what the keys of a text say together.
+//! The limits that are checked once all keys of a text are read.
 ghost use Rattle.std.specs.Prelude.{◌≡◌, ◌<◌, ◌≤◌, ◌+◌, ◌++◌, false, not, None, map, option_map, length, IsTrue, IfOk, IfSome};
 ghost use Rattle.std.specs.List.{list_all, list_any};
 ghost use Rattle.board_file.specs.Answer.{Gives};
@@ -29,7 +29,7 @@ const MOST_REGIONS: usize = 2;
 /// The most quiet ranges.
 const MOST_QUIET: usize = 16;
 
-/// The runs, and what there is of cells and sectors with them, unless these are too many.
+/// The runs, with the sums of cells and sectors so far, unless these are too large.
 fn sectors(
     alloc: Global,
     before: Sum,
@@ -114,7 +114,7 @@ fn small_regions(alloc: Global, written: &[WrittenRegion]) -> Result<Vec<Region>
     counted_regions(alloc, written)
 }
 
-/// Where the RAM and the flash controller of a text lie.
+/// Where the RAM and the flash controller of a text are.
 #[derive(Clone, Copy)]
 pub(crate) struct WrittenParts {
     pub ram_base: u32,

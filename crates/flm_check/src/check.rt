@@ -20,8 +20,8 @@ use outside_io::{Inputs, OutputFault, Sink};
 use report_text::{Refusal, put_refusal};
 use std::alloc::Global;
 
-/// Tries whether the algorithms of files keep their duties on a board, as the words ask for it. Answers the status that the program ends with.
-/// What is known goes to `out`, and its first line says it; a refusal puts one line on `err`, whose faults change no status.
+/// Tries whether the algorithms of some files keep their duties on a board, as the words ask. Answers the status that the program ends with.
+/// The result goes to `out`, beginning with its first line. A refusal puts one line on `err`; faults of `err` don't change the status.
 pub fn check<I: Inputs, O: Sink, E: Sink, P: Progress>(
     alloc: Global,
     words: &[Word],
@@ -40,7 +40,7 @@ pub fn check<I: Inputs, O: Sink, E: Sink, P: Progress>(
     }
 }
 
-/// The work of a call, without its status and its line on `err`.
+/// What a call does, except for its status and its line on `err`.
 fn work<'a, I: Inputs, O: Sink, P: Progress>(
     alloc: Global,
     words: &'a [Word],
