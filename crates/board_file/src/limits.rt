@@ -85,7 +85,7 @@ fn small_region(
     Ok((sum, region))
 }
 
-/// The regions that a text writes, each counted with those before it.
+/// The regions that a text writes, each counted together with those before it.
 fn counted_regions(alloc: Global, written: &[WrittenRegion]) -> Result<Vec<Region>, BoardFault>
     ensures said { Gives (λ v. v.items) result (small_regions 0 0 (map region_shown written.now)) }
     ensures same { IfOk result (λ v. v.items ≡ map region_shown written.now) }
@@ -149,7 +149,7 @@ fn are_quiet_too_big(written: &[WrittenQuiet]) -> bool
     written.len() > MOST_QUIET || !end_early(written)
 }
 
-/// The parts of a board without its quiet ranges, in the order in which an overlap is looked for.
+/// The parts of a board without its quiet ranges, in the order in which overlaps are looked for.
 fn parts(alloc: Global, parts: &WrittenParts, regions: &[Region]) -> Result<Vec<Placed>, AllocError>
     ensures { IfOk result (λ v. v.items ≡ fixed_parts parts.now.ram_base parts.now.ram_size regions.now parts.now.kind parts.now.controller_base) }
 {

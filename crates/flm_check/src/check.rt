@@ -20,8 +20,9 @@ use outside_io::{Inputs, OutputFault, Sink};
 use report_text::{Refusal, put_refusal};
 use std::alloc::Global;
 
-/// Tries whether the algorithms of some files keep their duties on a board, as the words ask. Answers the status that the program ends with.
-/// The result goes to `out`, beginning with its first line. A refusal puts one line on `err`; faults of `err` don't change the status.
+/// Tries whether the algorithms of some files keep their duties on a board, as the words ask. Answers the status that the program ends
+/// with. The result goes to `out`, and its first line sums it up. A refusal puts one line on `err`; faults of `err` don't change the
+/// status.
 pub fn check<I: Inputs, O: Sink, E: Sink, P: Progress>(
     alloc: Global,
     words: &[Word],

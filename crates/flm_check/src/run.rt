@@ -62,8 +62,8 @@ fn end_without_streams(rt: HostRuntime) -> ExitCode
     ExitCode::from(NO_STREAMS)
 }
 
-/// The call on files, with its text on standard output and its refusal on standard error. If standard error is a terminal, a line there shows
-/// how far the trials have come.
+/// The call on files, with its text on standard output and its refusal on standard error. If standard error is a terminal, a line there
+/// shows how far the trials have come.
 fn call(streams: HeldStreams, words: &[Word]) -> u8 {
     let rt = streams.host();
     let line = ProgressLine::on_terminal(rt);

@@ -10,8 +10,8 @@ use std::io;
 use std::io::ErrorKind;
 use std::os::unix::fs::FileExt;
 
-/// A cells file. If it can't be opened, each call but a sync fails. If it can only be read, each call that begins an operation fails. A call
-/// also fails if another program has the file locked, and one that begins an operation if another program reads it.
+/// A cells file. If it can't be opened, each call but a sync fails. If it can only be read, each call that begins an operation fails. A
+/// call also fails if another program has the file locked, and one that begins an operation if another program reads it.
 #[derive(Drop)]
 pub struct CellsFile {
     name: Word,
