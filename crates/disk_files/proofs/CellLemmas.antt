@@ -54,7 +54,7 @@ pub rest_in_range : (operation : Option (ℕ × ℕ)) (at n done m : ℕ) → do
 rest_in_range None at n done m le inside = inside
 rest_in_range (Some range) at n done m le inside = (omega (arith, inside.0), omega (arith, inside.1, le))
 
--- a piece that lies in the open range does so by equal numbers
+-- a piece within the open range, by equal numbers
 pub piece_in_range : {now was : Option (ℕ × ℕ)} {place at m n : ℕ} → now ≡ was → place ≡ at → m ≡ n → InRange at n was → InRange place m now
 piece_in_range {now = now} {was = was} {place = place} {at = at} {m = m} {n = n} same here long inside =
     subst (λ (o : Option (ℕ × ℕ)). InRange place m o) (sym same)

@@ -59,7 +59,7 @@ digits_next mark bytes line i d less is =
     ∙ append_assoc mark (digits (take i bytes)) (upper_digit (byte / 16) ∷ upper_digit (byte % 16) ∷ [])
     ∙ ap (λ (l : List ℕ). mark ++ l) (sym (digits-append (take i bytes) (byte ∷ [])) ∙ ap digits (sym (take_more bytes i d less)))
 
--- Lines whose bytes are neither blanks nor line feeds.
+-- Lines without blanks and line feeds.
 
 abbrev pub IsMark : ℕ → Type 0
 IsMark byte = nat_le 48 byte ≡ true
