@@ -1,4 +1,4 @@
--- Regions that are counted one after the other are too big exactly where all of them together are.
+-- Regions that are counted one after another are too big exactly where all of them together are.
 use Rattle.std.proofs.Common.{◌≡◌, ◌≤◌, ◌<◌, ◌+◌, ℕ, Bool, true, false, ◌||◌, nat_lt, List, [], ◌∷◌, Result, Ok, Err, if◌then◌else◌, refl, ap, ◌∙◌, arith}
 use Rattle.std.specs.List.{list_any}
 use Rattle.std.proofs.lemmas.Bool.{ltb-true, ltb-false, lt-ltb, le-ltb}
@@ -30,7 +30,7 @@ or_none false b is = (refl, is)
 none_or : (a b : Bool) → a ≡ false → b ≡ false → (a || b) ≡ false
 none_or a b one two = rw (one, two) refl
 
--- more of both are too many too
+-- if cells and sectors are too many, more of them are too
 many_more : (cells sectors more other : ℕ) → are_many cells sectors ≡ true → are_many (cells + more) (sectors + other) ≡ true
 many_more cells sectors more other is = by_cells (nat_lt most_cells cells) refl
   where
@@ -109,7 +109,7 @@ counted cells sectors (r ∷ rs) a b = by_test (are_many (cells + r.size) (secto
         let rest = others f.0 f.1 in
         rw (is, fits is, rest) (joined (big_behind (cells + r.size) (sectors + sectors_of r.sectors) rs))
 
--- all regions of a text
+-- all regions of a text, counted from 0
 pub small_or_too_big : (rs : List Region) → small_regions 0 0 rs ≡ unless_too_big rs
 small_or_too_big rs =
     let x : 0 + size_of rs ≡ size_of rs = omega arith in

@@ -9,12 +9,12 @@ use crate::key::{ADDRESSES, Key};
 pub enum ControllerKind {
     /// FC1, this project's own: `"fc1"`.
     Fc1,
-    /// FPEC, in the manner of the STM32F0 and STM32F1 families: `"fpec"`.
+    /// FPEC, as on the STM32F0 and STM32F1 families: `"fpec"`.
     Fpec,
 }
 
 impl ControllerKind {
-    /// The bytes of its block of registers.
+    /// How many bytes its block of registers has.
     pub fn block(self) -> u32
         ensures { result ≡ block_of self }
     {
@@ -24,7 +24,7 @@ impl ControllerKind {
         }
     }
 
-    /// The kind of a name.
+    /// The kind with this name.
     pub(crate) fn named(name: &str) -> Option<ControllerKind>
         ensures { result ≡ kind_named name.now }
     {
@@ -37,7 +37,7 @@ impl ControllerKind {
         None
     }
 
-    /// Whether it takes a number of a region's key.
+    /// Whether this kind of controller takes a number at a key of a region.
     fn takes_of_region(self, key: Key, number: u32) -> bool
         ensures { result ≡ takes_of_region self key number }
     {
@@ -48,7 +48,7 @@ impl ControllerKind {
         }
     }
 
-    /// Whether it takes a number of a key.
+    /// Whether this kind of controller takes a number at a key.
     pub(crate) fn takes(self, key: Key, number: u32) -> bool
         ensures { result ≡ takes self key number }
     {

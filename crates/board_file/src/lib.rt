@@ -1,7 +1,7 @@
-//! The description of a target board: where its RAM, its flash and its flash controller lie, how long
-//! the controller takes, how fast the core runs, and what erasing and programming weigh.
+//! The description of a target board: where its RAM, its flash and its flash controller are, how long
+//! the controller takes, how fast the core runs, and the weights of erasing and programming.
 //!
-//! The text is TOML. `read_board` reads it, and every `Board` keeps the ranges and the limits of the format.
+//! The text is TOML. `read_board` reads it, and the ranges and limits of the format hold for every `Board`.
 #![tactic(auto)]
 
 mod arrays;

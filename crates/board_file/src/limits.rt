@@ -1,4 +1,4 @@
-//! The limits on what the keys of a text say together.
+//! The limits that are checked once all keys of a text are read.
 ghost use Rattle.std.specs.Prelude.{◌≡◌, ◌<◌, ◌≤◌, ◌+◌, ◌++◌, false, not, None, map, option_map, length, IsTrue, IfOk, IfSome};
 ghost use Rattle.std.specs.List.{list_all, list_any};
 ghost use Rattle.board_file.specs.Answer.{Gives};
@@ -29,7 +29,7 @@ const MOST_REGIONS: usize = 2;
 /// The most quiet ranges.
 const MOST_QUIET: usize = 16;
 
-/// The runs, and what there is of cells and sectors with them, unless these are too many.
+/// The runs, with the sums of cells and sectors so far, unless these are too large.
 fn sectors(
     alloc: Global,
     before: Sum,
@@ -85,7 +85,7 @@ fn small_region(
     Ok((sum, region))
 }
 
-/// The regions that a text writes, each counted with those before it.
+/// The regions that a text writes, each counted together with those before it.
 fn counted_regions(alloc: Global, written: &[WrittenRegion]) -> Result<Vec<Region>, BoardFault>
     ensures said { Gives (λ v. v.items) result (small_regions 0 0 (map region_shown written.now)) }
     ensures same { IfOk result (λ v. v.items ≡ map region_shown written.now) }
@@ -114,7 +114,7 @@ fn small_regions(alloc: Global, written: &[WrittenRegion]) -> Result<Vec<Region>
     counted_regions(alloc, written)
 }
 
-/// Where the RAM and the flash controller of a text lie.
+/// Where the RAM and the flash controller of a text are.
 #[derive(Clone, Copy)]
 pub(crate) struct WrittenParts {
     pub ram_base: u32,
@@ -149,7 +149,7 @@ fn are_quiet_too_big(written: &[WrittenQuiet]) -> bool
     written.len() > MOST_QUIET || !end_early(written)
 }
 
-/// The parts of a board without its quiet ranges, in the order in which an overlap is looked for.
+/// The parts of a board without its quiet ranges, in the order in which overlaps are looked for.
 fn parts(alloc: Global, parts: &WrittenParts, regions: &[Region]) -> Result<Vec<Placed>, AllocError>
     ensures { IfOk result (λ v. v.items ≡ fixed_parts parts.now.ram_base parts.now.ram_size regions.now parts.now.kind parts.now.controller_base) }
 {

@@ -1,4 +1,4 @@
-//! Quiet ranges: addresses that load 0 and keep nothing that is stored.
+//! Quiet ranges: addresses that read as 0 and ignore writes.
 ghost use Rattle.std.specs.Prelude.{◌≡◌};
 
 use std::marker::Model;
@@ -8,7 +8,7 @@ use std::marker::Model;
 pub struct QuietRange {
     /// The first address.
     pub base: u32,
-    /// How many addresses.
+    /// The number of addresses.
     pub size: u32,
 }
 

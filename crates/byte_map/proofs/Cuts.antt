@@ -1,4 +1,4 @@
--- Where a number falls among the runs of a tree, by a measure of runs that rises.
+-- Where a number falls among the runs of a tree, by a measure that rises with the runs.
 use Rattle.std.proofs.Common.{◌≡◌, ⊎_elim, ◌≤◌, ◌<◌, ◌+◌, ◌-◌, ℕ, List, [], ◌∷◌, ◌++◌, length, sym, ap, subst, arith, length-append}
 use Rattle.std.proofs.lemmas.Bool.{cases_lt}
 use Rattle.byte_map.specs.Image.{Run, run_at, end_of, AreMaximal}
@@ -30,7 +30,7 @@ ends_before end xs ys k m some lt =
     let is = ap (λ (n : ℕ). (run_at ys n).at) (let e : length xs - length xs ≡ 0 = omega arith in e) in
     omega (arith, up, left, right, is)
 
--- the measure rises
+-- the measure rises with the runs of a list
 abbrev pub Rises : (Run → ℕ) → List Run → Type 0
 Rises f runs = (i j : ℕ) → i ≤ j → j < length runs → f (run_at runs i) ≤ f (run_at runs j)
 
@@ -43,7 +43,7 @@ rises_right f xs ys rises i j le lt =
     let is_j = ap (λ (n : ℕ). f (run_at ys n)) (let e : length xs + j - length xs ≡ j = omega arith in e) in
     omega (arith, up, at_i, at_j, is_i, is_j)
 
--- a run of the first part is no higher than one of the second
+-- the measure of a run of the first part is at most that of one of the second
 pub no_higher : (f : Run → ℕ) (xs ys : List Run) (i j : ℕ) → Rises f (xs ++ ys) → i < length xs → j < length ys → f (run_at xs i) ≤ f (run_at ys j)
 no_higher f xs ys i j rises lt within =
     let up = rises i (length xs + j) (omega arith) (omega (arith, length-append xs ys)) in
@@ -52,7 +52,7 @@ no_higher f xs ys i j rises lt within =
     let is_j = ap (λ (n : ℕ). f (run_at ys n)) (let e : length xs + j - length xs ≡ j = omega arith in e) in
     omega (arith, up, at_i, at_j, is_j)
 
--- a number that no run of the second part is below, and one that each of the first is below
+-- where a number falls that is at most the measure of each run of the second part, or above that of each run of the first
 pub cut_left : (f : Run → ℕ) (xs ys : List Run) (limit count : ℕ) → ((k : ℕ) → k < length ys → limit ≤ f (run_at ys k)) → IsCut f xs limit count →
     IsCut f (xs ++ ys) limit count
 cut_left f xs ys limit count high cut =
@@ -81,7 +81,7 @@ cut_right f xs ys limit count low cut =
           let same = ap f (at_right xs ys k (omega arith)) in omega (arith, later, same);
     }
 
--- a number in two parts
+-- where a number falls in a list of two parts
 pub cut_both : (f : Run → ℕ) (xs ys : List Run) (limit count count' : ℕ) → Rises f (xs ++ ys) → IsCut f xs limit count → IsCut f ys limit count' →
     IsCut f (xs ++ ys) limit (count + count')
 cut_both f xs ys limit count count' rises cut cut' =
@@ -138,13 +138,13 @@ cut_within f left chunk right limit count rises some lt le cut =
     (λ k before. let up = no_higher f left (chunk ++ right) k 0 rises before (omega (arith, length-append chunk right)) in omega (arith, up, first))
     (cut_left f chunk right limit count (λ k within. let up = no_higher f chunk right (length chunk - 1) k rest (omega arith) within in omega (arith, up)) cut)
 
--- a number in the sides of a node that has no runs of its own
+-- where a number falls in a node without runs of its own
 pub cut_empty : (f : Run → ℕ) (left chunk right : List Run) (limit count count' : ℕ) → Rises f (left ++ (chunk ++ right)) → length chunk ≡ 0 →
     IsCut f left limit count → IsCut f right limit count' → IsCut f (left ++ (chunk ++ right)) limit (count + count')
 cut_empty f left [] right limit count count' rises none cut cut' = cut_both f left right limit count count' rises cut cut'
 cut_empty f left (r ∷ chunk) right limit count count' rises none cut cut' = absurd (omega arith)
 
--- a number among the runs of a list, by what a binary search says
+-- where a number falls in a list, by a binary search
 pub cut_of : (f : Run → ℕ) (runs runs' : List Run) (limit count : ℕ) → runs' ≡ runs → count ≤ length runs' →
     ((k : ℕ) → k < count → f (run_at runs' k) < limit) → ((k : ℕ) → count ≤ k → k < length runs' → limit ≤ f (run_at runs' k)) → IsCut f runs limit count
 cut_of f runs runs' limit count is within below others = subst (λ (rs : List Run). IsCut f rs limit count) is

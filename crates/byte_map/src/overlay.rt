@@ -5,7 +5,7 @@ ghost use Rattle.byte_map.specs.Image.{addresses, AreMaximal, over};
 use crate::run_buffer::RunBuffer;
 use crate::run_list::RunList;
 
-/// Lays a map, given by its runs, over cells whose first one has the address `base`.
+/// Lays a map, given by its runs, over cells. The first cell has the address `base`.
 pub fn overlay(runs: &RunList, base: u32, cells: &mut [u8])
     requires maximal { AreMaximal 0 addresses runs.now }
     requires fits { base + length cells.old ≤ addresses }

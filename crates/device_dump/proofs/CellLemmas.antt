@@ -1,4 +1,4 @@
--- Cells as a map, region after region. For `map_of_cells`, and for the law that a dump is read as its cells.
+-- Cells as a map, region by region, for `map_of_cells` and for the law that a dump is read as its cells.
 use Rattle.std.proofs.Common.{◌≡◌, ◌<◌, ◌≤◌, ◌+◌, ◌-◌, ◌∙◌, sym, ap, refl, arith, ℕ, Bool, true, false, cond, List, [], ◌∷◌, length, get_or, take, drop, Option}
 use Rattle.std.proofs.Common.{Some, None}
 use Rattle.std.specs.Prelude.{slice_range}
@@ -21,7 +21,7 @@ pub cells_more : (regions : List Region) (i : ℕ) (d : Region) → i < length r
     → size_of (drop i regions) ≡ (get_or regions i d).size + size_of (drop (i + 1) regions)
 cells_more regions i d less = sum_by-drop_more (λ (r : Region). r.size) regions i d less
 
--- Of the cells, those of the first regions are in the map, and those from a place on are left for the others.
+-- The cells of the first regions are in the map, and those from a place on are left for the other regions.
 pub record IsMapSoFar (regions : List Region) (cells : List ℕ) (i place : ℕ) (map : List Run) : Type 0 where
   pub maximal : AreMaximal 0 addresses map
   pub rest : (a : ℕ) → or_else (byte_at map a) (byte_at (cell_runs (drop i regions) (drop place cells)) a) ≡ byte_at (cell_runs regions cells) a
@@ -31,7 +31,7 @@ pub none_mapped : (regions : List Region) (cells : List ℕ) → length cells �
 none_mapped regions cells all =
     let same : size_of (drop 0 regions) ≡ size_of regions = refl in record { maximal = tt; rest = λ a. refl; left = omega (arith, all, same) }
 
--- a byte of a piece, beside an old one that agrees with it, and before others
+-- a byte of a piece, with an old one that agrees with it, and the bytes of the others
 laid_by : (b : ℕ) (rest : Option ℕ) (h : Bool) (old : Option ℕ) → ((byte : ℕ) → h ≡ true → old ≡ Some byte → byte ≡ b)
     → or_else (cond h (Some b) old) rest ≡ or_else old (cond h (Some b) rest)
 laid_by b rest true None agrees = refl
@@ -45,7 +45,7 @@ laid_byte piece map new rest a lays =
     ∙ laid_by (byte_of piece a) (byte_at rest a) (holds piece a) (byte_at map a)
     (λ byte held is. let to = held_to piece a held in lays.agrees a byte (omega (arith, to, lays.fits)) held is)
 
--- one region more
+-- the cells of one more region are in the map
 pub one_mapped : (regions : List Region) (cells : List ℕ) (i place end : ℕ) (region d : Region) (map new : List Run) → i < length regions
     → region ≡ get_or regions i d
     → end ≡ place + region.size → IsMapSoFar regions cells i place map → Lays (record { at = region.base; bytes = slice_range cells place end }) map new
@@ -78,7 +78,7 @@ or_none : (o : Option ℕ) → or_else o None ≡ o
 or_none None = refl
 or_none (Some byte) = refl
 
--- no region is left
+-- the cells of all regions are in the map
 pub all_mapped : (regions : List Region) (cells : List ℕ) (i place : ℕ) (map : List Run) → length regions ≤ i
     → IsMapSoFar regions cells i place map → IsMapOfCells regions cells map
 all_mapped regions cells i place map past so_far = record {

@@ -63,7 +63,7 @@ module _ (form : TextForm) (regions : List Region) where
       none_failed = λ told no. same.failed told;
     }
 
-    -- with every answer that which is to be printed is
+    -- with every answer, what is due to be printed is printed
     prints_due : (answer : Answer) (map : List Run) → PrintsNothing out answer → Dumped form regions bench out answer → IsTrue bench.tells
         → IsMapOfCells regions bench.after.cells map → PrintsText out (text_in form map) answer
     prints_due done map nothing dumped told is =
@@ -78,7 +78,7 @@ module _ (form : TextForm) (regions : List Region) where
     prints_due (refused device_fault) map nothing dumped told is = nothing
     prints_due (refused r) map nothing dumped told is = absurd dumped
 
-  -- no memory, before the cells are looked at
+  -- out of memory, before the cells are looked at
   pub dumps_nothing : (tells told : Bool) (b : BenchState) (o : SinkState)
       → DumpsCells form regions (bench_call tells b b) (sink_call told o o) (refused out_of_memory)
   dumps_nothing tells told b o = record {
@@ -151,7 +151,7 @@ module _ (form : TextForm) (regions : List Region) where
     }
     dumps_put u looks surveyed (refused r) puts = absurd puts
 
--- The text of the map is put whole, or in part.
+-- The text of the map is put, whole or in part.
 module _ (form : TextForm) (regions : List Region) (cells : List ℕ) (map : List Run) (told : Bool) (o after : SinkState)
     (bytes : All (λ byte. byte < 256) cells)
     (all : length cells ≡ size_of regions) (is_map : IsMapOfCells regions cells map) where
@@ -167,11 +167,11 @@ module _ (form : TextForm) (regions : List Region) (cells : List ℕ) (map : Lis
     prints = record { taken = puts.err; later = puts.cause.later; rose = puts.cause.on_fault refl };
   }
 
--- a slice that was written through is what its vector holds
+-- a vector holds what was written through a slice of it
 pub written_back : (len : ℕ) (new old : List ℕ) → len ≡ length new → take len (new ++ drop (length new) old) ≡ new
 written_back len new old same = take-append-le len new (drop (length new) old) (omega arith) ∙ take_all len new (omega arith)
 
--- The exits before it.
+-- The exits before the work on the cells.
 
 module _ (form : TextForm) (name : List ℕ) (tells told : Bool) (b : BenchState) (o : SinkState) (inputs : InputsCall) where
   abbrev Bench : BenchCall
@@ -219,7 +219,7 @@ module _ (form : TextForm) (name : List ℕ) (tells told : Bool) (b : BenchState
         → IsDueForBoard form Bench Out answer other
     due_here answer due other its stands = subst (λ (t : List ℕ). IsDueForBoard form Bench Out answer t) (one_file inputs name other text its stands file) due
 
-    -- the text is no board's
+    -- the text isn't that of a board
     refused_due : (fault : BoardFault) → reading text ≡ Err fault → IsDueForBoard form Bench Out (refused (board_refused fault)) text
     refused_due fault is = record {
       refuses = λ other also. let both : fault ≡ other = cc in inl (cc);
@@ -239,7 +239,7 @@ module _ (form : TextForm) (name : List ℕ) (tells told : Bool) (b : BenchState
     ends_unread r is = absurd is
 
     module _ (its : board.Shown) (is : IsBoard text its) where
-      -- another number of cells
+      -- the bench has another number of cells than the board
       differs_due : size_of its.regions ≢ b.cell_count → IsDueForBoard form Bench Out (refused (cells_differ (size_of its.regions) b.cell_count)) text
       differs_due unequal = record {
         refuses = λ fault wrong. absurd (cc);

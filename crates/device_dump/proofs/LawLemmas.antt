@@ -1,4 +1,4 @@
--- What a dump is read as. For the law `dumps_are_read_as_their_cells`.
+-- What a dump is read as, for the law `dumps_are_read_as_their_cells`.
 use Rattle.std.proofs.Common.{◌≡◌, ◌<◌, ◌+◌, ◌-◌, ◌∙◌, sym, subst, refl, arith, ℕ, Bool, true, false, cond, List, [], ◌∷◌, length, slice_index, take, drop}
 use Rattle.std.proofs.Common.{Some, None}
 use Rattle.std.specs.List.{All}

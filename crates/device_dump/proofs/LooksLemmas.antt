@@ -10,7 +10,7 @@ use Rattle.readback.specs.Readback.{OnlyReadsCells}
 use Rattle.command_files.specs.Call.{bench_call}
 use Rattle.device_dump.specs.Looks.{IsBrokenOff, LooksAtCells}
 
--- the break-off failed
+-- the break-off of the operation failed
 pub looks_dropped : {A T : Type 0} {tells : Bool} {a b : BenchState} (fault : DeviceFault) → DropsCells {T = T} tells a b (Err fault)
     → LooksAtCells {A = A} (bench_call tells a b) (Err fault)
 looks_dropped fault drops = record {

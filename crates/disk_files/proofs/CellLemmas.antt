@@ -1,4 +1,4 @@
--- Whole writes of cells, in as many calls as they take. `write_range` and `fill_range` go on by them.
+-- Whole writes of cells, in as many calls as that takes, for `write_range` and `fill_range`.
 use Rattle.std.proofs.Common.{replicate, ◌≡◌, ◌≤◌, ◌+◌, ◌∙◌, ap, sym, subst, refl, ℕ, List, Bool, IsTrue, ◌++◌, length, take, drop, arith, append_assoc}
 use Rattle.std.proofs.Common.{length-take, length-drop, length-append, Option, Some, None}
 use Rattle.std.proofs.lemmas.List.{take_at, drop_at, drop-drop, length-replicate, replicate-append-replicate}
@@ -49,12 +49,12 @@ looks_then one two = record {
   writes = writes_then one.writes two.writes;
 }
 
--- the rest of what lies in the open range
+-- the rest of a piece in the open range is in it too
 pub rest_in_range : (operation : Option (ℕ × ℕ)) (at n done m : ℕ) → done + m ≤ n → InRange at n operation → InRange (at + done) m operation
 rest_in_range None at n done m le inside = inside
 rest_in_range (Some range) at n done m le inside = (omega (arith, inside.0), omega (arith, inside.1, le))
 
--- a piece that lies in the open range does so by equal numbers
+-- a piece within the open range, by equal numbers
 pub piece_in_range : {now was : Option (ℕ × ℕ)} {place at m n : ℕ} → now ≡ was → place ≡ at → m ≡ n → InRange at n was → InRange place m now
 piece_in_range {now = now} {was = was} {place = place} {at = at} {m = m} {n = n} same here long inside =
     subst (λ (o : Option (ℕ × ℕ)). InRange place m o) (sym same)
@@ -88,7 +88,7 @@ module _ (tells : Bool) (old mid new : DiskState) (at : ℕ) (bytes : List ℕ) 
     to : at + done + length rest ≤ at + length bytes
     to = omega (arith, ap length is_rest, length-drop done bytes, so_far.within)
 
-    -- once more of the bytes are written
+    -- some more bytes of the write are in place
     pub put_more : (n : ℕ) → n ≤ length rest → (IsTrue tells → take (at + done + n) new.bytes ≡ take (at + done) mid.bytes ++ take n rest)
         → IsPutTo tells old new at bytes (done + n)
     put_more n le some = record {
@@ -98,20 +98,20 @@ module _ (tells : Bool) (old mid new : DiskState) (at : ℕ) (bytes : List ℕ) 
       does = writes_then so_far.does does;
     }
 
-    -- after an error
+    -- a call of the write failed
     pub put_no_more : IsPutTo tells old new at bytes done
     put_no_more =
         let e : done + 0 ≡ done = omega arith in
         subst (λ (m : ℕ). IsPutTo tells old new at bytes m) e
         (put_more 0 (omega arith) (λ told. stand_still at done mid.bytes new.bytes rest (torn told).before))
 
--- once all are written
+-- all bytes of the write are in place
 pub put_all : (tells : Bool) (old new : DiskState) (at : ℕ) (bytes : List ℕ) (done : ℕ) → IsPutTo tells old new at bytes done → done ≡ length bytes
     → IsTrue tells → new.bytes ≡ written at bytes old.bytes
 put_all tells old new at bytes done so_far is told =
     stand_all at bytes done old.bytes new.bytes is (so_far.some told) (so_far.torn told)
 
--- one more piece of a fill
+-- a fill after one more piece
 pub filled_more : (at done size value place : ℕ) (piece mid old : List ℕ) → place ≡ at + done → at + done ≤ length old → piece ≡ replicate size value →
     mid ≡ written at (replicate done value) old
     → written place piece mid ≡ written at (replicate (done + size) value) old

@@ -1,4 +1,4 @@
--- Writes over bytes and cells in memory. `end_range` settles a range so.
+-- Writes over bytes and cells in memory, for `end_range`, which writes a range so.
 use Rattle.std.proofs.Common.{◌≡◌, ◌≤◌, ◌+◌, ◌-◌, ◌∙◌, ap, sym, subst, refl, ℕ, List, ◌++◌, length, take, drop, arith, append_assoc, append-nil, length-take}
 use Rattle.std.proofs.Common.{length-drop, length-append, Option, Some, None}
 use Rattle.std.proofs.Math.Seq.{take-add}
@@ -8,7 +8,7 @@ use Rattle.bench_model.specs.State.{SameOutside}
 use Rattle.disk_files.specs.DiskDoes.{InRange}
 use Rattle.disk_files.specs.Memory.{DiffersInside, differs_inside, outside_of}
 
--- bytes laid over others, and past their end
+-- bytes written over others, and past their end
 module _ (at : ℕ) (bytes old : List ℕ) (le : at ≤ length old) where
   front-long : length (take at old) ≡ at
   front-long = omega (arith, length-take at old, le)
@@ -41,7 +41,7 @@ read_whole n after before held is read =
     read ∙ ap (λ (m : ℕ). take m held) (sym is) ∙ sym (append-nil (take n held))
     ∙ ap (λ (l : List ℕ). take n held ++ l) (sym (drop_all n before (omega (arith, is))))
 
--- a write in the open range differs in it alone
+-- a write in the open range changes nothing outside it
 pub outside_then : (operation : Option (ℕ × ℕ)) (cells x y : List ℕ) (at n : ℕ) → InRange at n operation → SameOutside operation cells x → Torn at n x y
     → length y ≡ length x → SameOutside operation cells y
 outside_then None cells x y at n inside out torn long = absurd inside
@@ -54,7 +54,7 @@ outside_then (Some range) cells x y at n inside out torn long =
           ∙ ap (λ (m : ℕ). drop m x) rest ∙ out.2,
     )
 
--- the bytes of a range, laid over cells that are the same outside it, are all the bytes
+-- the bytes of a range, written over cells that are the same outside it, give all the bytes
 pub range_written : (at n : ℕ) (cells x part : List ℕ) → SameOutside (Some (at, n)) cells x → at + n ≤ length x → part ≡ take n (drop at x) →
     written at part cells ≡ x
 range_written at n cells x part out inside is =
@@ -80,7 +80,7 @@ differs_written {operation = operation} {cells = cells} {x = x} at bytes same in
     (differs_then operation cells x (written at bytes x) at (length bytes) (subst (λ (o : Option (ℕ × ℕ)). InRange at (length bytes) o) same inside) out
     (written_torn at bytes x before) (written_long at bytes x before fits))
 
--- a range that is opened over cells that stand there
+-- a range is opened over the cells that are there
 pub differs_opened : (at n : ℕ) (cells bytes : List ℕ) → DiffersInside None cells bytes → DiffersInside (Some (at, n)) cells bytes
 differs_opened at n cells bytes out =
     let is : bytes ≡ cells = out.idle refl in

@@ -1,4 +1,4 @@
--- When several calls of the files fail. Loops over calls count their faults by them.
+-- When several calls of the files fail. Loops over calls count their faults with these lemmas.
 use Rattle.std.proofs.Common.{◌≡◌, ◌≤◌, ◌<◌, ◌+◌, ◌∙◌, ap, inl, inr, ⊎_elim, sym, subst, refl, ℕ, Bool, IsTrue, arith, Result, Ok, Err, IsOk, IsErr}
 use Rattle.std.proofs.lemmas.Bool.{false≢true}
 use Rattle.faults.specs.Counts.{Rose}
@@ -20,7 +20,7 @@ goes_here tells d = record { errors = λ told. refl; stops = λ told. omega arit
 pub keeps_then : {a b c : DiskState} → KeepsSyncs a b → KeepsSyncs b c → KeepsSyncs a c
 keeps_then one two = record { file_whole = two.file_whole ∙ one.file_whole; cells_whole = two.cells_whole ∙ one.cells_whole }
 
--- a call that went through
+-- no call has failed after one more that went through
 pub goes_ok : {tells : Bool} {old mid new : DiskState} {stops : ℕ} → GoesSo tells old mid stops
     → (IsTrue tells → (new.errors ≡ mid.errors) × (new.interrupted ≡ mid.interrupted)) → (IsTrue tells → KeepsSyncs mid new) → GoesSo tells old new stops
 goes_ok so_far call syncs = record {
@@ -29,7 +29,7 @@ goes_ok so_far call syncs = record {
   syncs = λ told. keeps_then (so_far.syncs told) (syncs told);
 }
 
--- a call that was interrupted
+-- no call has failed after one more that was interrupted
 pub goes_stopped : {tells : Bool} {old mid new : DiskState} {stops : ℕ}
     → GoesSo tells old mid stops → (IsTrue tells → (new.errors ≡ mid.errors) × (new.interrupted ≡ mid.interrupted + 1)) → (IsTrue tells → KeepsSyncs mid new)
     → GoesSo tells old new (stops + 1)
@@ -98,7 +98,7 @@ pub moves_from : {a b c : DiskState} {n m : ℕ} {result : Result ℕ Error} →
 moves_from {b = b} {c = c} {n = n} {result = result} same long call =
     subst (λ (k : ℕ). CallMoves b c k result) long (subst (λ (d : DiskState). CallMoves d c n result) same call)
 
--- a call after one that moved something
+-- a call that follows one that moved something
 pub moves_then : {a b c : DiskState} {wanted : ℕ} (result : Result ℕ Error) → b.errors ≡ a.errors → b.interrupted ≡ a.interrupted → KeepsSyncs a b
     → CallMoves b c wanted result → CallMoves a c wanted result
 moves_then {a = a} {b = b} {c = c} (Ok n) errors stops syncs call = record {

@@ -1,10 +1,10 @@
--- A call after one that only read or synced. `file_write` goes on so after a call that left the file as it was.
+-- A call after one that only read or synced, for `file_write` after a call that left the file as it was.
 use Rattle.std.proofs.Common.{refl, ℕ, List, arith}
 use Rattle.bench_model.specs.History.{Half, left, Leaves, AddsNothing, Stays}
 use Rattle.bench_model.specs.Calls.{Follows, Cut}
 use Rattle.bench_model.proofs.Moments.{leaves_then, leaves_as, leaves_left, adds_nothing_then, stays_adds_nothing}
 
--- a step that may come to nothing
+-- a step that may change nothing
 pub adds_nothing_follows : {a b : Half} (step : List ℕ → List ℕ → Type 0) → ((x : List ℕ) → step x x) → AddsNothing a b → Leaves a b (Follows step a)
 adds_nothing_follows {a} step none one = leaves_as (left a) (Follows step a) (λ x is. (x, is, none x)) one
 

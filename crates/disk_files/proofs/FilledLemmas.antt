@@ -6,7 +6,7 @@ use borrow.Rule.Slice.PartMut.{put_mid}
 use Rattle.std.proofs.lemmas.Slice.{take-put_mid, take-put_mid_below, drop-put_mid}
 use Rattle.std.proofs.lemmas.List.{take-take, drop-drop, take_at}
 
--- the buffer with other bytes from this place on
+-- a buffer with other bytes from a place on
 abbrev pub filled : List ℕ → ℕ → List ℕ → List ℕ
 filled now done after = put_mid done (length now - done) now after
 

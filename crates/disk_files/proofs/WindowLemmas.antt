@@ -1,4 +1,4 @@
--- Windows of cells. A window that was read before answers as the file does.
+-- Windows of cells: a window that was read answers as the file does.
 use Rattle.std.proofs.Common.{◌≡◌, ◌≤◌, ◌+◌, ◌-◌, ◌∙◌, ⊎_elim, ap, sym, subst, refl, ℕ, List, ◌++◌, length, take, drop, arith, append_assoc, length-take}
 use Rattle.std.proofs.Common.{length-drop, length-append}
 use Rattle.std.proofs.Math.Seq.{take-add}
@@ -7,11 +7,11 @@ use Rattle.std.proofs.lemmas.List.{take-take, drop-drop, drop-take, take-append-
 use Rattle.bench_model.specs.Calls.{written, Torn}
 use Rattle.disk_files.specs.Window.{IsCopy}
 
--- a window with no cells
+-- a window with no cells is a copy
 pub copy_none : (at len : ℕ) (bytes held : List ℕ) → len ≡ 0 → IsCopy at len bytes held
 copy_none at len bytes held none = subst (λ (n : ℕ). IsCopy at n bytes held) (sym none) refl
 
--- some of its cells
+-- some cells of a window are those of the file
 pub copied : (at len place index n : ℕ) (bytes held : List ℕ) → IsCopy at len bytes held → index + n ≤ len → at + index ≡ place
     → take n (drop index bytes) ≡ take n (drop place held)
 copied at len place index n bytes held copy inside is =
@@ -26,7 +26,7 @@ copied at len place index n bytes held copy inside is =
         sym (take-take n m (drop index xs) less) ∙ ap (λ (l : List ℕ). take n l) (sym (drop-take index m xs))
         ∙ ap (λ (k : ℕ). take n (drop index (take k xs))) whole
 
--- bytes laid over the first cells of a row
+-- bytes written over the first cells of a row
 laid : (i L : ℕ) (part xs : List ℕ) → i + length part ≤ L → L ≤ length xs → take L (written i part xs) ≡ written i part (take L xs)
 laid i L part xs inside long =
     let k = i + length part in

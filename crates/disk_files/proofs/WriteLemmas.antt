@@ -1,4 +1,4 @@
--- Whole writes, in as many calls as they take. `write_all` goes on by them, and all that is written in pieces.
+-- Whole writes, in as many calls as that takes, for `write_all` and all else that is written in pieces.
 use Rattle.std.proofs.Common.{◌≡◌, ◌≤◌, ◌+◌, ◌-◌, ◌∙◌, ap, sym, subst, refl, ℕ, List, Bool, IsTrue, ◌++◌, length, take, drop, arith, append-nil, append_assoc}
 use Rattle.std.proofs.Common.{length-take, length-drop, length-append}
 use Rattle.std.proofs.Math.Seq.{take-add}
@@ -30,7 +30,7 @@ torn_then at n at' n' d e f from to one two =
 pub stand_none : (at : ℕ) (bytes old : List ℕ) → take (at + 0) old ≡ take at old ++ take 0 bytes
 stand_none at bytes old = let e : at + 0 ≡ at = omega arith in ap (λ (m : ℕ). take m old) e ∙ sym (append-nil (take at old))
 
--- where the next call begins
+-- the place where the next call begins is within the file
 pub stand_place : (at : ℕ) (bytes : List ℕ) (done : ℕ) (old mid : List ℕ) → done ≤ length bytes → take (at + done) mid ≡ take at old ++ take done bytes
     → at ≤ length old → at + done ≤ length mid
 stand_place at bytes done old mid within some inside =
@@ -46,7 +46,7 @@ stand_place at bytes done old mid within some inside =
       within,
     )
 
--- once more of the bytes are written
+-- some more bytes are in place
 pub stand_more : (at : ℕ) (bytes : List ℕ) (done n : ℕ) (old mid new rest : List ℕ) → rest ≡ drop done bytes
     → take (at + done) mid ≡ take at old ++ take done bytes → take (at + done + n) new ≡ take (at + done) mid ++ take n rest
     → take (at + (done + n)) new ≡ take at old ++ take (done + n) bytes
@@ -57,14 +57,14 @@ stand_more at bytes done n old mid new rest is_rest some more =
     ∙ ap (λ (l : List ℕ). take at old ++ (take done bytes ++ take n l)) is_rest
     ∙ ap (λ (l : List ℕ). take at old ++ l) (sym (take-add done n bytes))
 
--- after an error
+-- the bytes in place after an error
 pub stand_still : (at done : ℕ) (mid new rest : List ℕ) → take (at + done) new ≡ take (at + done) mid
     → take (at + done + 0) new ≡ take (at + done) mid ++ take 0 rest
 stand_still at done mid new rest before =
     let z : at + done + 0 ≡ at + done = omega arith in
     ap (λ (m : ℕ). take m new) z ∙ before ∙ sym (append-nil (take (at + done) mid))
 
--- once all are written
+-- all bytes are in place
 pub stand_all : (at : ℕ) (bytes : List ℕ) (done : ℕ) (old new : List ℕ) → done ≡ length bytes → take (at + done) new ≡ take at old ++ take done bytes
     → Torn at (length bytes) old new → new ≡ written at bytes old
 stand_all at bytes done old new is some torn =
@@ -125,7 +125,7 @@ module _ (tells : Bool) (old mid new : DiskState) (at : ℕ) (bytes : List ℕ) 
         Follows (Torn at (length bytes)) (job_half old) y
     step x y (d, is, one) two = (d, is, torn_then at (length bytes) (at + done) (length rest) d x y from to one two)
 
-    -- once more of the bytes are written
+    -- some more bytes of the write are in place
     pub written_more : (n : ℕ) → n ≤ length rest → (IsTrue tells → take (at + done + n) new.file ≡ take (at + done) mid.file ++ take n rest)
         → IsWrittenTo tells old new at bytes (done + n)
     written_more n le some = record {
@@ -139,14 +139,14 @@ module _ (tells : Bool) (old mid new : DiskState) (at : ℕ) (bytes : List ℕ) 
       cells = cells_as_were_then so_far.cells does.cells;
     }
 
-    -- after an error
+    -- a call of the write failed
     pub written_no_more : IsWrittenTo tells old new at bytes done
     written_no_more =
         let e : done + 0 ≡ done = omega arith in
         subst (λ (m : ℕ). IsWrittenTo tells old new at bytes m) e
         (written_more 0 (omega arith) (λ told. stand_still at done mid.file new.file rest (torn told).before))
 
--- once all are written
+-- all bytes of the write are in place
 pub written_all : (tells : Bool) (old new : DiskState) (at : ℕ) (bytes : List ℕ) (done : ℕ) → IsWrittenTo tells old new at bytes done → done ≡ length bytes
     → IsTrue tells → new.file ≡ written at bytes old.file
 written_all tells old new at bytes done so_far is told =

@@ -122,7 +122,7 @@ pub record ClosesRange {E : Type 0} (tells : Bool) (old new : DiskState) (result
   pub moments : AddsNothing (range_half old) (range_half new)
   pub job : JobAsWas old new
 
--- these cells lie in the open range
+-- these cells are within the open range
 abbrev pub InRange : ℕ → ℕ → Option (ℕ × ℕ) → Type 0
 InRange at n None = ⊥
 InRange at n (Some range) = (range.0 ≤ at) × (at + n ≤ range.0 + range.1)

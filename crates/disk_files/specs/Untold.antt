@@ -1,4 +1,4 @@
--- The state of files that tell nothing of their contents.
+-- The state of files with contents that contracts don't see.
 use Rattle.std.specs.Prelude.{[], None, true, false}
 use Rattle.disk_files.specs.DiskState.{DiskState}
 

@@ -13,7 +13,7 @@ use faults::FaultCount;
 use std::io;
 use std::io::ErrorKind;
 
-/// A disk with the job file and the cells of a bench. It tells its contents where the bench does.
+/// A disk with the job file and the cells of a bench. Contracts see its contents where they see those of the bench.
 ///
 /// The cells are written in the bench when a range is closed. Until then the written bytes are kept apart.
 #[derive(Drop)]

@@ -9,7 +9,8 @@ pub struct JobSyncs {
     pub failed: bool,
 }
 
-/// Whether cells may have been written since they were last synced, whether none was synced in this run yet, and whether a sync of them failed.
+/// Whether cells may have been written since they were last synced, whether they haven't been synced in this run yet, and whether a sync of
+/// them has failed.
 #[derive(Clone, Copy)]
 pub struct CellsSyncs {
     pub pending: bool,

@@ -54,7 +54,7 @@ impl Window {
         Some(skip as usize)
     }
 
-    /// Fills `out` with the cells from the place `at` on, if the window has them all, and answers whether it does. Otherwise `out` is unchanged.
+    /// Fills `out` with the cells from the place `at` on and answers true, if the window has them all. Otherwise `out` is unchanged.
     #[inline(always)]
     pub fn copy(&self, at: u64, out: &mut [u8]) -> bool
         ensures whole { (held : List ℕ) → IsCopy self.now.at self.now.len self.now.bytes.items held → IsTrue result

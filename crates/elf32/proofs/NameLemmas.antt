@@ -17,7 +17,7 @@ use Rattle.elf32.specs.Places.{Placed, first_place, noted, AreKept, HasNoShortNa
 use Rattle.elf32.specs.Tables.{is_section}
 use Rattle.elf32.proofs.SearchLemmas.{first_below-first, first_below-more}
 
--- where there is a string table of names, its bytes decide
+-- if there is a string table of names, its bytes decide whether the index is at fault
 pub index_fault-part : (bytes : List ℕ) → (e_shnum bytes ≡ 0 → ⊥) → e_shstrndx bytes < e_shnum bytes → (e_shstrndx bytes ≡ 0 → ⊥)
     → index_fault bytes ≡ result_err (names_part bytes)
 unfolding index_fault
@@ -32,7 +32,7 @@ some_stays : (o last : Option ℕ) → is_some o ≡ true → o ≡ option_or o 
 some_stays None last some = cc
 some_stays (Some x) last some = refl
 
--- the first bad name
+-- the fault of the first bad name
 pub name_fault-here : (bytes : List ℕ) (i : ℕ) → first_below (λ k. is_none (section_name bytes k)) i ≡ None → i < e_shnum bytes
     → section_name bytes i ≡ None → name_fault bytes ≡ Some (BadName (section_name_at bytes i))
 unfolding name_fault
@@ -47,7 +47,7 @@ step : (b : Bool) (x : ℕ) (more rest last : Option ℕ) → more ≡ option_or
 step true x more rest last h = refl
 step false x more rest last h = h
 
--- what is found among some sections and one more
+-- what is found among some sections and one more after them
 first_place-last : (name : List ℕ) (kind : ℕ) (ps : List Placed) (p : Placed)
     → first_place name kind (ps ++ p ∷ []) ≡ option_or (first_place name kind ps) (cond (bytes_eq name p.0 && (kind == p.1)) (Some p.2) None)
 first_place-last name kind [] p = refl
@@ -59,7 +59,7 @@ or_none : (o : Option ℕ) → option_or o None ≡ o
 or_none None = refl
 or_none (Some x) = refl
 
--- a name and type that are there already need no second place
+-- a name and type that are in the list already need no second place
 same_place : (name text : List ℕ) (kind other i : ℕ) (places : List Placed) → is_some (first_place text other places) ≡ true
     → (b : Bool) → (bytes_eq name text && (kind == other)) ≡ b
     → first_place name kind places ≡ option_or (first_place name kind places) (cond b (Some i) None)
@@ -71,7 +71,7 @@ same_place name text kind other i places there true same =
     let here : is_some (first_place name kind places) ≡ true = rw (names, kinds) there in
     some_stays (first_place name kind places) (Some i) here
 
--- a section is kept
+-- the list after one more section is kept
 kept_step : (bytes : List ℕ) (i : ℕ) (places : List Placed) (text name : List ℕ) (kind : ℕ) → section_name bytes i ≡ Some text
     → first_place name kind places ≡ first_below (is_section bytes name kind) i
     → (b : Bool) → is_some (first_place text (section_at bytes i).kind places) ≡ b
@@ -88,7 +88,7 @@ pub kept-more : (bytes : List ℕ) (i : ℕ) (places : List Placed) (text : List
 kept-more bytes i places text named kept name kind short =
     kept_step bytes i places text name kind named (kept name kind short) (is_some (first_place text (section_at bytes i).kind places)) refl
 
--- a short name isn't a longer one
+-- a short name isn't equal to a longer one
 not_longer : (name : List ℕ) (found : Option (List ℕ)) → IsLonger 64 found → length name ≤ 64 → is_name name found ≡ false
 not_longer name None long short = absurd long
 not_longer name (Some text) long short = other (bytes_eq name text) refl
@@ -104,18 +104,18 @@ kept-other bytes i places other kept name kind short =
     rw (first_below-more (is_section bytes name kind) i, other name short, kept name kind short)
     (sym (or_none (first_below (is_section bytes name kind) i)))
 
--- what is lent of a name within a limit, or longer than it, is of a name
+-- if a name is lent, or is longer than the limit, there is a name
 pub within_named : (limit : ℕ) (found : Option (List ℕ)) (lent : Option (Bor (List ℕ))) → IsWithin limit found lent → is_none found ≡ false
 within_named limit found (Some text) within = rw within.0 refl
 within_named limit None None within = absurd within
 within_named limit (Some text) None within = refl
 
--- what is lent of a name of at most 64 bytes
+-- what is lent for a name of at most 64 bytes
 pub short_lent : (bytes : List ℕ) (k : ℕ) (lent : Option (Bor (List ℕ))) → IsWithin 64 (section_name bytes k) lent
     → MatchOption lent (HasNoShortName bytes k) (λ text. section_name bytes k ≡ Some text.now)
 short_lent bytes k (Some text) within = within.0
 short_lent bytes k None longer = λ name short. not_longer name (section_name bytes k) longer short
 
--- without a name it has no short one
+-- a section without a name has no short name
 pub none_short : (bytes : List ℕ) (k : ℕ) → section_name bytes k ≡ None → HasNoShortName bytes k
 none_short bytes k none name short = rw none refl

@@ -1,4 +1,4 @@
--- What a map with borrowed names finds. So looking a name up answers as a scan of the table does.
+-- What a map with borrowed names finds: a look-up answers as a scan of the table does.
 use Rattle.std.proofs.Common.{◌≡◌, ℕ, ◌==◌, ◌&&◌, Bool, true, false, is_some, List, [], ◌∷◌, ◌++◌, Some, refl, ap, cond}
 use Rattle.std.specs.Str.{bytes_eq}
 use Rattle.std.specs.Borrow.{Bor}
@@ -9,11 +9,11 @@ use Rattle.elf32.specs.Places.{first_place, placed_of}
 abbrev pub Key : Type 0
 Key = Bor (List ℕ) × ℕ
 
--- the test of the map's keys
+-- the test by which the map compares keys
 abbrev pub same : Key → Key → Bool
 same k l = bytes_eq k.0.now l.0.now && (k.1 == l.1)
 
--- a look-up is the first place
+-- a look-up finds the first place
 pub lookup-first_place : (k : Key) (es : List (Key × ℕ)) → lookup (same k) es ≡ first_place k.0.now k.1 (placed_of es)
 lookup-first_place k [] = refl
 lookup-first_place k (e ∷ es) = ap (cond (same k e.0) (Some e.1)) (lookup-first_place k es)

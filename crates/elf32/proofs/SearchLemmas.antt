@@ -1,4 +1,4 @@
--- Laws of the least number that passes a test. Sections and symbols are the first that fit.
+-- Laws of the least number that passes a test, for sections and symbols, which are the first that fit.
 use Rattle.std.proofs.Common.{◌≡◌, ℕ, ◌+◌, ◌-◌, ◌<◌, ◌≤◌, Bool, true, false, List, [], ◌∷◌, ◌++◌, cond, Option, Some, None, refl, sym, ap, ◌∙◌, arith, suc}
 use Rattle.std.proofs.Common.{zero, zero-add, add-zero, inl, inr, ◌⊎◌, ⊎_elim}
 use Rattle.std.specs.Option.{option_or}
@@ -18,7 +18,7 @@ range_more n =
     sym (map_same (range_with_len 0 (n + 1))) ∙ map-range_with_len_more (λ x. x) 0 n n (zero-add n)
     ∙ rw (map_same (range_with_len 0 n)) refl
 
--- one number more
+-- the search below n + 1, by the search below n and the test of n
 pub first_below-more : (p : ℕ → Bool) (n : ℕ) → first_below p (n + 1) ≡ option_or (first_below p n) (cond (p n) (Some n) None)
 unfolding first_below
 first_below-more p n = rw (range_more n) (find-append p (range_with_len 0 n) (n ∷ []))
@@ -28,11 +28,11 @@ pub first_below-zero : (p : ℕ → Bool) → first_below p 0 ≡ None
 unfolding first_below
 first_below-zero p = refl
 
--- no number up to here passes
+-- no number up to n passes
 pub first_below-none : (p : ℕ → Bool) (n : ℕ) → first_below p n ≡ None → p n ≡ false → first_below p (n + 1) ≡ None
 first_below-none p n before here = rw (first_below-more p n, before, here) refl
 
--- the first that passes is this one
+-- the first number that passes is n
 pub first_below-here : (p : ℕ → Bool) (n : ℕ) → first_below p n ≡ None → p n ≡ true → first_below p (n + 1) ≡ Some n
 first_below-here p n before here = rw (first_below-more p n, before, here) refl
 
@@ -46,7 +46,7 @@ first_below-later p n i (suc more) found =
     let e : n + suc more ≡ n + more + 1 = omega arith in
     rw e (first_below-stays p (n + more) i (first_below-later p n i more found))
 
--- the first that passes, among more numbers
+-- the first number that passes, searched for below a greater one
 pub first_below-first : (p : ℕ → Bool) (n i : ℕ) → i < n → first_below p i ≡ None → p i ≡ true → first_below p n ≡ Some i
 first_below-first p n i inside before here =
     let e : i + 1 + (n - (i + 1)) ≡ n = omega arith in
@@ -57,7 +57,7 @@ pub first_below-among : (p : ℕ → Bool) (m n i : ℕ) → m ≤ n → first_b
 first_below-among p m n i within found =
     let e : m + (n - m) ≡ n = omega arith in rw e at (first_below-later p m i (n - m) found)
 
--- what is found passes, and is below the number
+-- the number found passes and is below n
 inside_step : (b : Bool) (f : Option ℕ) (n i : ℕ) → option_or f (cond b (Some n) None) ≡ Some i → (f ≡ Some i → i < n) → i < n + 1
 inside_step b (Some x) n i found before = omega (arith, before found)
 inside_step true None n i found before = let e : n ≡ i = cc in omega arith
@@ -70,7 +70,7 @@ first_below-inside p (suc n) i found =
     let more : option_or (first_below p n) (cond (p n) (Some n) None) ≡ Some i = sym (first_below-more p n) ∙ ap (first_below p) e ∙ found in
     omega (arith, inside_step (p n) (first_below p n) n i more (first_below-inside p n i))
 
--- where none is found, none passes
+-- if none is found, none passes
 none_step : (b : Bool) (f : Option ℕ) (n : ℕ) → option_or f (cond b (Some n) None) ≡ None → (f ≡ None) × (b ≡ false)
 none_step b (Some x) n none = cc
 none_step true None n none = cc
@@ -87,7 +87,7 @@ first_below-fails p (suc n) k none less =
     (λ (above : n ≤ k). let same : k ≡ n = omega (arith, above, less) in rw same parts.1)
     (cases_lt k n)
 
--- what is found is the least that passes
+-- the number found is the least that passes
 found_step : (b : Bool) (f : Option ℕ) (n i : ℕ) → option_or f (cond b (Some n) None) ≡ Some i → (f ≡ Some i) ⊎ ((f ≡ None) × (b ≡ true) × (n ≡ i))
 found_step b (Some x) n i found = inl found
 found_step true None n i found = inr (refl, refl, cc)

@@ -10,7 +10,7 @@ use Rattle.std.proofs.lemmas.List.{take-take, length-take, length-drop, get_or-d
 use Rattle.std.proofs.lemmas.List.Sums.{position_or_len_is, fails_before_first, passes_at_first}
 use Rattle.elf32.specs.Strings.{is_zero, string_at, EndsAt, IsWithin}
 
--- the first place that passes, within a limit
+-- the first place that passes in the first n bytes
 position_or_len-take : (p : ℕ → Bool) (xs : List ℕ) (n : ℕ) → n ≤ length xs → position_or_len p (take n xs) ≡ min n (position_or_len p xs)
 position_or_len-take p xs n within = position_or_len_is p (take n xs) (min n (position_or_len p xs)) 0
     (omega (arith, length-take n xs))
@@ -42,7 +42,7 @@ found_within rest limit len ends found =
     let is : len ≡ z = omega (arith, here, long, low, parts.1) in
     (rw is (take-take z n rest (omega (arith, here, long, low))), omega (arith, here, long, low))
 
--- where none is found there is none within the limit
+-- if no zero byte is found within the limit, the string is longer
 pub missed_within : (rest : List ℕ) (limit : ℕ) → position_or_len is_zero rest < length rest
     → position is_zero (take (min (length rest) (limit + 1)) rest) ≡ None → limit < position_or_len is_zero rest
 missed_within rest limit ends missed =
@@ -80,13 +80,13 @@ none_behind table ended at ends behind = ⊎_elim
     (λ past. rw (not_below (position_or_len is_zero (drop at table)) (length (drop at table)) past) refl)
     (cases_lt (position_or_len is_zero (drop at table)) (length (drop at table)))
 
--- the string of a place from which on there is a zero byte
+-- the string at a place that a zero byte follows
 pub string_at-some : (table : List ℕ) (at : ℕ) → position_or_len is_zero (drop at table) < length (drop at table)
     → string_at table at ≡ Some (before_first is_zero (drop at table))
 unfolding string_at
 string_at-some table at inside = rw (lt-ltb (position_or_len is_zero (drop at table)) (length (drop at table)) inside) refl
 
--- what is lent of the string of a place
+-- what is lent for the string at a place
 pub lent_within : (table rest : List ℕ) (at limit : ℕ) (lent : Option (Bor (List ℕ))) → rest ≡ drop at table
     → position_or_len is_zero rest < length rest
     → MatchOption lent (limit < position_or_len is_zero rest) (λ text. (text.now ≡ before_first is_zero rest) × (position_or_len is_zero rest ≤ limit))

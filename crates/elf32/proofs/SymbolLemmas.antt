@@ -12,11 +12,11 @@ some_not_none : {A : Type 0} (o : Option A) → IsSome o → is_none o ≡ false
 some_not_none None some = cc
 some_not_none (Some x) some = refl
 
--- the search up to place `k`
+-- whether the search for a symbol ends at entry `k`
 abbrev pub ends_at : List ℕ → List ℕ → Section → List ℕ → ℕ → Bool
 ends_at bytes strings table name k = ends_search bytes strings name (table.offset + 16 * k)
 
--- it ends at a bad name
+-- the search ends at a bad name
 pub symbol_among-bad : (bytes strings : List ℕ) (table : Section) (name : List ℕ) (i : ℕ)
     → first_below (ends_at bytes strings table name) i ≡ None → i < table.size / 16
     → symbol_name bytes strings (table.offset + 16 * i) ≡ None
@@ -26,7 +26,7 @@ symbol_among-bad bytes strings table name i before inside bad =
     let here : ends_at bytes strings table name i ≡ true = rw bad refl in
     rw (first_below-first (ends_at bytes strings table name) (table.size / 16) i inside before here, bad) refl
 
--- it ends at the symbol that is sought
+-- the search ends at the symbol searched for
 pub symbol_among-found : (bytes strings : List ℕ) (table : Section) (name : List ℕ) (i : ℕ)
     → first_below (ends_at bytes strings table name) i ≡ None → i < table.size / 16
     → IsSome (symbol_name bytes strings (table.offset + 16 * i)) → is_symbol bytes strings name (table.offset + 16 * i) ≡ true
@@ -37,7 +37,7 @@ symbol_among-found bytes strings table name i before inside good same =
     let here : ends_at bytes strings table name i ≡ true = rw (named, same) refl in
     rw (first_below-first (ends_at bytes strings table name) (table.size / 16) i inside before here, named) refl
 
--- it goes on at any other
+-- the search continues at any other symbol
 pub ends_at-more : (bytes strings : List ℕ) (table : Section) (name : List ℕ) (i : ℕ)
     → first_below (ends_at bytes strings table name) i ≡ None
     → IsSome (symbol_name bytes strings (table.offset + 16 * i)) → is_symbol bytes strings name (table.offset + 16 * i) ≡ false
@@ -46,7 +46,7 @@ ends_at-more bytes strings table name i before good other =
     let named = some_not_none (symbol_name bytes strings (table.offset + 16 * i)) good in
     first_below-none (ends_at bytes strings table name) i before (rw (named, other) refl)
 
--- it ends with the table
+-- the search ends with the table
 pub symbol_among-none : (bytes strings : List ℕ) (table : Section) (name : List ℕ)
     → first_below (ends_at bytes strings table name) (table.size / 16) ≡ None → symbol_among bytes strings table name ≡ Ok None
 unfolding symbol_among

@@ -1,4 +1,4 @@
-//! The ELF header's fields, and the entries of the tables that it names. Each takes a file whose header or table is whole.
+//! The ELF header's fields, and the entries of the tables that it names. Each call needs a file with the whole header or table.
 ghost use Rattle.std.specs.Prelude.{◌≡◌, ◌≤◌, ◌<◌, ◌+◌, ◌*◌, length};
 ghost use Rattle.elf32.specs.Fields.{words};
 ghost use Rattle.elf32.specs.Format.{e_machine, e_phoff, e_shoff, e_phentsize, e_phnum, e_shentsize, e_shnum, e_shstrndx, section_at, section_name_at};
@@ -7,16 +7,16 @@ ghost use Rattle.elf32.specs.Format.{segment_at, symbol_at, symbol_name_at, symb
 use crate::entries::{Section, Segment, Symbol};
 use crate::fields::{half, word};
 
-/// The bytes of the ELF header.
+/// How many bytes the ELF header has.
 pub const HEADER_LEN: usize = 52;
 
-/// The bytes of a program header.
+/// How many bytes a program header has.
 pub const SEGMENT_LEN: usize = 32;
 
-/// The bytes of a section header.
+/// How many bytes a section header has.
 pub const SECTION_LEN: usize = 40;
 
-/// The bytes of a symbol table's entry.
+/// How many bytes an entry of a symbol table has.
 pub const SYMBOL_LEN: usize = 16;
 
 /// e_machine.

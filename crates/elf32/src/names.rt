@@ -14,14 +14,14 @@ use crate::places::Places;
 use crate::strings::Strings;
 use std::alloc::{AllocError, Global};
 
-/// The longest section name that is kept in a map, in bytes. A longer name is sought in the headers.
+/// The longest section name that is kept in a map, in bytes. A longer name is looked up in the headers.
 pub const LONGEST_KEPT: usize = 64;
 
 /// How many sections, from the first on, have their names kept in a map. The map's hash has a fixed seed, so a file can be made
 /// whose names collide; this few names cost little even then. A later section is looked up in the headers.
 pub const MOST_KEPT: usize = 64;
 
-/// The string table of section names, where there is one.
+/// The string table of section names, if there is one.
 #[tactic(auto, unfolding(crate::specs::Checks::index_fault, crate::specs::Checks::section_names))]
 pub fn section_names<'a>(bytes: &'a [u8]) -> Result<Option<Strings<'a>>, ElfFault>
     requires header { 52 ≤ length bytes.now }
@@ -47,7 +47,7 @@ pub fn section_names<'a>(bytes: &'a [u8]) -> Result<Option<Strings<'a>>, ElfFaul
     Ok(Some(Strings::new(names)))
 }
 
-/// The name of section `index`, and none where it is longer than `limit` bytes.
+/// The name of section `index`, or none if it is longer than `limit` bytes.
 #[tactic(auto, unfolding(crate::specs::Checks::section_name))]
 pub fn section_name<'a>(
     bytes: &[u8],
@@ -69,8 +69,8 @@ pub fn section_name<'a>(
     }
 }
 
-/// The first section name that begins outside its string table, or has no end in it, is refused. No more than one byte of a
-/// name is looked at.
+/// Refuses the first section name that begins outside its string table, or has no end in it. It looks at no more than one byte of
+/// each name.
 pub fn check_names(bytes: &[u8], names: &Option<Strings>) -> Result<(), ElfFault>
     requires header { 52 ≤ length bytes.now }
     requires table { e_shoff bytes.now + 40 * e_shnum bytes.now ≤ length bytes.now }
@@ -83,7 +83,7 @@ pub fn check_names(bytes: &[u8], names: &Option<Strings>) -> Result<(), ElfFault
     Ok(())
 }
 
-/// The name of section `index`, where it has one that is short enough to be kept.
+/// The name of section `index`, if it has one that is short enough to be kept.
 fn short_name<'a>(bytes: &[u8], names: &Option<Strings<'a>>, index: usize) -> Option<&'a [u8]>
     requires header { 52 ≤ length bytes.now }
     requires table { e_shoff bytes.now + 40 * e_shnum bytes.now ≤ length bytes.now }
@@ -97,7 +97,7 @@ fn short_name<'a>(bytes: &[u8], names: &Option<Strings<'a>>, index: usize) -> Op
     }
 }
 
-/// The places of the first sections by name and type, but for those of longer names.
+/// The places of the first sections by name and type, except those with longer names.
 pub fn keep_names<'a>(
     alloc: Global,
     bytes: &'a [u8],
@@ -143,7 +143,7 @@ pub fn find_section(
     }
 }
 
-/// The place of the first section of a name and type, where none before `start` has them.
+/// The place of the first section of a name and type, if none before `start` has them.
 fn find_from(
     bytes: &[u8],
     names: &Option<Strings>,

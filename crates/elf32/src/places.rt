@@ -1,4 +1,4 @@
-//! The first section of a name and type, by a key that borrows the name from the file.
+//! The first section of each name and type. The keys borrow the names from the file.
 ghost use Rattle.std.specs.Prelude.{◌≡◌, [], OnOk, OnErr};
 ghost use Rattle.elf32.specs.Places.{first_place, noted};
 
@@ -31,7 +31,7 @@ impl<'a> Places<'a> {
         }
     }
 
-    /// Notes a section at its place, unless one of its name and type was noted before.
+    /// Notes the place of a section, unless one of its name and type was noted before.
     pub fn note(&mut self, name: &'a [u8], kind: u32, place: usize) -> Result<(), AllocError>
         ensures ok { OnOk result (self.new ≡ noted name.entry.now kind place self.old) }
         ensures err { OnErr result (self.new ≡ self.old) }

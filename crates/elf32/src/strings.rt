@@ -35,7 +35,7 @@ impl<'a> Strings<'a> {
         }
     }
 
-    /// The string that begins at `at`, and none where it is longer than `limit` bytes. It is refused where it begins
+    /// The string at `at`, or none if it is longer than `limit` bytes. It is refused if it begins
     /// outside the table or has no end in it.
     pub fn name(&self, at: u32, limit: usize) -> Result<Option<&'a [u8]>, ElfFault>
         requires { limit < 2 ^ 63 }
@@ -48,7 +48,7 @@ impl<'a> Strings<'a> {
         Ok(string(&self.bytes[at as usize..], limit))
     }
 
-    /// Whether the string that begins at `at` is `name`. It is refused where it begins outside the table or has no end in it.
+    /// Whether the string at `at` is `name`. It is refused if it begins outside the table or has no end in it.
     pub fn is(&self, at: u32, name: &[u8]) -> Result<bool, ElfFault>
         ensures bad { IfErr result (λ fault. (fault ≡ ElfFault.BadName at) × (string_at self.now at ≡ None)) }
         ensures good { OnOk result (IsSome (string_at self.now at)) }
@@ -73,7 +73,7 @@ fn last_end(table: &[u8]) -> usize
     ended
 }
 
-/// What stands before the first zero byte, and none where that is more than `limit` bytes. There is a zero byte.
+/// The bytes before the first zero byte, or none if there are more than `limit`. There must be a zero byte.
 fn string(rest: &[u8], limit: usize) -> Option<&[u8]>
     requires limit { limit < 2 ^ 63 }
     requires ends { position_or_len is_zero rest.now < length rest.now }

@@ -45,7 +45,7 @@ pub fn symbol_in(bytes: &[u8], table: Section, name: &[u8]) -> Result<Option<Sym
     symbol_among(bytes, &Strings::new(strings), table, name)
 }
 
-/// The first symbol of a name in a symbol table that lies in the file. A bad name before it is refused.
+/// The first symbol of a name in a symbol table that is within the file. A bad name before it is refused.
 fn symbol_among(
     bytes: &[u8],
     strings: &Strings,

@@ -1,4 +1,4 @@
--- The board and the algorithms that files say, and why there are none.
+-- The board and the algorithms that files describe, and why the files are refused.
 use Rattle.std.proofs.Common.{◌≡◌, ◌+◌, ◌-◌, refl, subst, arith, inr, ℕ, zero, suc, List, [], ◌∷◌, ◌++◌, length, slice_get, Option, option_to_list}
 use Rattle.std.proofs.Common.{IsSome, Some, None, Result, Ok, Err}
 use Rattle.board_file.specs.declared.region.Region.{Region}
@@ -18,7 +18,7 @@ use Rattle.flm_check.specs.declared.board_algorithms.BoardAlgorithms.{BoardAlgor
 
 -- ---- algorithms for the regions of a board
 
--- the region in an algorithm's place
+-- an algorithm of a board is for the region in its place
 pub record HasRegion (b : board.Shown) (regions : List Region) (k : ℕ) (algorithm : flm.Shown) : Type 0 where
   pub region : Region
   pub is : slice_get regions k ≡ Some region

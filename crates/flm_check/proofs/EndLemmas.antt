@@ -31,7 +31,7 @@ use Rattle.flm_check.specs.Answers.{Claims, ClaimsOf, ComesRefused, PutsRefused,
 
 -- ---- what is reported of algorithms
 
--- a breach is of one of them
+-- a breach is by one of the algorithms
 pub inside : (b : board.Shown) (algorithms : List flm.Shown) (count : ℕ) (v : Verdict) → ((k : ℕ) (a : flm.Shown) → slice_get algorithms k ≡ Some a → k < count)
     → IsTrueOf b algorithms v → IsInside count v
 inside b algorithms count verdict.Proved few is = tt
@@ -78,19 +78,19 @@ pub puts_nothing : (tells : Bool) (o : SinkState) (r : Refusal) → (r ≡ refus
 puts_nothing tells o refusal.output_fault other = absurd (other refl)
 puts_nothing tells o r other = nothing tells o
 
--- the line of a refusal that isn't of words
+-- the line of a refusal that isn't about the words
 pub refused_others : (e : value.Refusal) → (e ≡ variant.Usage → ⊥) → line_of (shown e) ≡ refused_line (shown e)
 refused_others variant.Usage other = absurd (other refl)
 refused_others e other = refl
 
--- a file that couldn't be taken
+-- a call is refused if one of its files couldn't be taken
 pub comes_untaken : (words : List (List ℕ)) (inputs : InputsCall) (asked : Asked) (r : Refusal) → Asks words asked → IsTakeFault inputs (names_in asked.files) r
     → ComesRefused words inputs r
 comes_untaken words inputs asked refusal.out_of_memory asks is = is
 comes_untaken words inputs asked (refusal.input_fault name) asks is = record { asked = asked; asks = asks; fault = is }
 comes_untaken words inputs asked r asks is = absurd is
 
--- files that are refused
+-- a call with files that are refused
 pub comes_refused : (words : List (List ℕ)) (inputs : InputsCall) (asked : Asked) (r : Refusal) → Asks words asked
     → TookFiles inputs asked.files (λ files. IsReadRefusal files r) → ComesRefused words inputs r
 comes_refused words inputs asked refusal.out_of_memory asks took = took.none_failed
@@ -101,7 +101,7 @@ comes_refused words inputs asked (refusal.other_device base size) asks took = re
 comes_refused words inputs asked (refusal.no_room need have) asks took = record { asked = asked; asks = asks; took = took }
 comes_refused words inputs asked r asks took = absurd took.given.holds
 
--- which refusals of files there are
+-- taking files is never refused by a fault of the output
 pub take_no_output : (inputs : InputsCall) (names : List (List ℕ)) (r : Refusal) → IsTakeFault inputs names r → r ≡ refusal.output_fault → ⊥
 take_no_output inputs names refusal.output_fault is same = is
 take_no_output inputs names r is same = absurd cc
@@ -116,21 +116,21 @@ module _ (words : List (List ℕ)) (inputs : InputsCall) (told : Bool) (o : Sink
   abbrev Out : SinkCall
   Out = sink_call told o o
 
-  -- words that fit no call
+  -- the words fit no call
   pub works_unfit : (e : value.Refusal) → shown e ≡ refusal.usage → AsksNothing words → NoneFailed inputs → Works words inputs Out (Err e)
   works_unfit e is nothing_asked none = record {
     comes = subst (λ (r : Refusal). ComesRefused words inputs r) (sym is) (inl (nothing_asked, none));
     leaves = subst (λ (r : Refusal). PutsRefused Out r) (sym is) (nothing told o);
   }
 
-  -- no memory
+  -- out of memory
   pub works_without_memory : (e : value.Refusal) → shown e ≡ refusal.out_of_memory → NoneFailed inputs → Works words inputs Out (Err e)
   works_without_memory e is none = record {
     comes = subst (λ (r : Refusal). ComesRefused words inputs r) (sym is) none;
     leaves = subst (λ (r : Refusal). PutsRefused Out r) (sym is) (nothing told o);
   }
 
-  -- no algorithms for a board
+  -- the files give no algorithms for a board
   pub works_untaken : (asked : Asked) (e : value.Refusal) → Asks words asked
       → IsTakeFault inputs (names_in asked.files) (shown e) ⊎ TookFiles inputs asked.files (λ files. IsReadRefusal files (shown e)) →
       Works words inputs Out (Err e)
@@ -148,7 +148,7 @@ module _ (words : List (List ℕ)) (inputs : InputsCall) (out : SinkCall) where
     leaves = subst (λ (r : Refusal). PutsRefused out r) (sym is) (record { text = text; took = part });
   }
 
-  -- the end
+  -- the algorithms were checked, and the ending was put
   pub works_done : (asked : Asked) (e : Ending) (rest : List ℕ) → Asks words asked → TookFiles inputs asked.files (λ files. ClaimsOf files e)
       → TookAll out (first_line e ++ rest) → Works words inputs out (Ok e)
   works_done asked e rest asks took all = record {

@@ -1,4 +1,4 @@
--- What words and files of algorithms say, and how a call ends.
+-- What words and FLM files say, and how a call ends.
 pub mod WordLemmas
 pub mod BoardAlgorithmsLemmas
 pub mod EndLemmas

@@ -13,7 +13,7 @@ use Rattle.flm_check.specs.declared.words.Setting.TheVariants as setting
 abbrev Words : Type 0
 Words = List (List ℕ)
 
--- the options, whichever they are
+-- the five forms of options, one by one
 options_by : (C : Type 0) (options : Words) (seed rounds : ℕ) → (NoOption options seed rounds → C) → (OnlySeed options seed rounds → C)
     → (OnlyRounds options seed rounds → C) → (SeedFirst options seed rounds → C) → (RoundsFirst options seed rounds → C) → AreOptions options seed rounds → C
 options_by C options seed rounds none only_seed only_rounds seed_first rounds_first (inl are) = none are
@@ -22,7 +22,7 @@ options_by C options seed rounds none only_seed only_rounds seed_first rounds_fi
 options_by C options seed rounds none only_seed only_rounds seed_first rounds_first (inr (inr (inr (inl are)))) = seed_first are
 options_by C options seed rounds none only_seed only_rounds seed_first rounds_first (inr (inr (inr (inr are)))) = rounds_first are
 
--- no option is a name
+-- the names of options don't count as names of files
 seed_no_name : IsName seed_name → ⊥
 seed_no_name is = let wrong : true ≡ false = is in absurd cc
 
@@ -57,7 +57,7 @@ four_words (w ∷ x ∷ y ∷ z ∷ v ∷ rest) a b c d four one two three last 
 
 -- ---- options that are read
 
--- one
+-- a single option that gives nothing
 pub options_one : (name word : List ℕ) → ((s : Setting) → IsSetting name word s → ⊥) → (seed rounds : ℕ)
     → AreOptions (name ∷ word ∷ []) seed rounds → ⊥
 options_one name word none seed rounds are = options_by ⊥ (name ∷ word ∷ []) seed rounds
@@ -72,7 +72,7 @@ options_one name word none seed rounds are = options_by ⊥ (name ∷ word ∷ [
     (λ o. let wrong = ap length o.words_are in absurd (omega arith))
     are
 
--- what the first two and the last two of four give
+-- what the first two and the last two of four words give
 pub record Both (name word other_name other_word : List ℕ) (seed rounds : ℕ) : Type 0 where
   pub one : Setting
   pub other : Setting
@@ -106,7 +106,7 @@ options_two name word other_name other_word seed rounds are =
     })
     are
 
--- one of the two of four that gives nothing
+-- one of the two options of four words gives nothing
 pub no_first : (name word other_name other_word : List ℕ) → ((s : Setting) → IsSetting name word s → ⊥) → (seed rounds : ℕ)
     → AreOptions (name ∷ word ∷ other_name ∷ other_word ∷ []) seed rounds → ⊥
 no_first name word other_name other_word none seed rounds are =
@@ -117,7 +117,7 @@ pub no_second : (name word other_name other_word : List ℕ) → ((s : Setting) 
 no_second name word other_name other_word none seed rounds are =
     let both = options_two name word other_name other_word seed rounds are in none both.other both.is_other
 
--- what both give
+-- both options of four words give something
 pub both_some : (name word other_name other_word : List ℕ) (options : Words) (one other : Setting) (result : Option Rounds)
     → options ≡ name ∷ word ∷ other_name ∷ other_word ∷ [] → IsSetting name word one → IsSetting other_name other_word other
     → IfSome result (λ r. (n w m v : List ℕ) → IsSetting n w one → IsSetting m v other → AreOptions (n ∷ w ∷ m ∷ v ∷ []) r.seed r.rounds)
@@ -142,7 +142,7 @@ front_of files options words some are = counted files.flm some are where
   counted None some are = absurd cc
   counted (Some f) some are = let long = ap length are in omega arith
 
--- too few words
+-- fewer than two words ask for nothing
 pub words_few : (words : Words) → length words < 2 → (asked : Asked) → Asks words asked → ⊥
 words_few words few asked asks = absurd (omega (arith, few, front_of asked.files asks.options words asks.has_flm asks.words_are))
 

@@ -70,7 +70,7 @@ fn add_run_end(text: &mut String, end: RunEnd) -> Result<(), AllocError> {
     }
 }
 
-/// Adds the line of why an instruction could not be done.
+/// Adds the line of why the core could not do an instruction.
 fn add_fault(text: &mut String, kind: FaultKind, pc: u32) -> Result<(), AllocError> {
     match kind {
         FaultKind::Undefined => writeln!(text, "end undefined at {pc:08X}"),

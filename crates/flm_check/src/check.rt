@@ -20,8 +20,9 @@ use outside_io::{Inputs, OutputFault, Sink};
 use report_text::{Refusal, put_refusal};
 use std::alloc::Global;
 
-/// Tries whether the algorithms of files keep their duties on a board, as the words ask for it. Answers the status that the program ends with.
-/// What is known goes to `out`, and its first line says it; a refusal puts one line on `err`, whose faults change no status.
+/// Tries whether the algorithms of some files keep their duties on a board, as the words ask. Answers the status that the program ends
+/// with. The result goes to `out`, and its first line sums it up. A refusal puts one line on `err`; faults of `err` don't change the
+/// status.
 pub fn check<I: Inputs, O: Sink, E: Sink, P: Progress>(
     alloc: Global,
     words: &[Word],
@@ -40,7 +41,7 @@ pub fn check<I: Inputs, O: Sink, E: Sink, P: Progress>(
     }
 }
 
-/// The work of a call, without its status and its line on `err`.
+/// What a call does, except for its status and its line on `err`.
 fn work<'a, I: Inputs, O: Sink, P: Progress>(
     alloc: Global,
     words: &'a [Word],
@@ -67,7 +68,7 @@ fn work<'a, I: Inputs, O: Sink, P: Progress>(
     Ok(answer.ending)
 }
 
-/// The status of a refusal, whose line goes to `err`.
+/// Puts the line of a refusal on `err`, and answers its status.
 fn refuse<E: Sink>(err: &mut E, refusal: &Refusal<'_>) -> u8
     ensures status { result ≡ status_of (shown refusal.now) }
     ensures line { TookAll (sink_call E.tells (E.state err.old) (E.state err.new)) (refused_line (shown refusal.now))

@@ -44,7 +44,7 @@ pub fn answer_of(
     })
 }
 
-/// The part of what is allowed, in percent, rounded up.
+/// How much of what is allowed was used, in percent, rounded up.
 fn percent(count: &Count) -> u64 {
     if count.allowed == 0 {
         return 0;
@@ -54,7 +54,7 @@ fn percent(count: &Count) -> u64 {
     part.min(100) as u64
 }
 
-/// Adds the line of a function, where it was called.
+/// Adds the line of a function, if it was called.
 fn add_count(text: &mut String, name: &str, count: &Count) -> Result<(), AllocError> {
     if count.calls == 0 {
         return Ok(());
@@ -82,7 +82,7 @@ fn add_counts(text: &mut String, trials: &Trials) -> Result<(), AllocError> {
     add_count(text, "Verify", &tally.verify)
 }
 
-/// The word of contents.
+/// The word for the contents of the device.
 fn contents_word(contents: Contents) -> &'static str {
     match contents {
         Contents::Blank => "blank",
@@ -92,7 +92,7 @@ fn contents_word(contents: Contents) -> &'static str {
     }
 }
 
-/// The word of the bytes of pages.
+/// The word for the bytes of the pages.
 fn bytes_word(bytes: PageBytes) -> &'static str {
     match bytes {
         PageBytes::Random => "random",
@@ -115,7 +115,7 @@ fn add_list(text: &mut String, subject: &Subject<'_>, broken: &Broken) -> Result
     )
 }
 
-/// Adds the lines of the calls that work on sectors or pages of a list, up to a number.
+/// Adds the lines of the calls of a list that work on sectors or pages, up to a number.
 fn add_works(
     alloc: Global,
     text: &mut String,
@@ -133,7 +133,7 @@ fn add_works(
     Ok(())
 }
 
-/// Adds the lines of the calls of a list, up to the one that broke.
+/// Adds the lines of the calls of a list, up to the one that broke its duty.
 fn add_calls(
     alloc: Global,
     text: &mut String,

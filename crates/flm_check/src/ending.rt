@@ -1,4 +1,4 @@
-//! How a call ends that judges algorithms.
+//! How a check of algorithms ends.
 ghost use Rattle.std.specs.Prelude.{◌≡◌, ◌++◌};
 ghost use Rattle.std.specs.List.{flat_map};
 ghost use Rattle.outside_io.specs.Puts.{Puts};
@@ -13,34 +13,34 @@ use target_core::RunEnd;
 /// How a call broke its duty.
 #[derive(Clone, Copy)]
 pub enum Duty {
-    /// It returned another value than that of success.
+    /// The call returned another value than the one for success.
     Answer,
-    /// It didn't return within its time-out.
+    /// The call didn't return within its time-out.
     NoFuel,
-    /// It ended by a fault of the core or at a breakpoint.
+    /// The call ended by a fault of the core or at a breakpoint.
     Fault,
-    /// It opened an operation outside its place.
+    /// The call opened an operation outside its place.
     OperationOutside,
-    /// It left an operation open.
+    /// The call left an operation open.
     OperationOpen,
-    /// It left a cell in its place other than the ideal device does.
+    /// The call left a cell in its place in another state than the ideal device does.
     CellInside,
-    /// It did so outside its place.
+    /// The call left a cell outside its place in another state than the ideal device does.
     CellOutside,
 }
 
 /// How the check of some algorithms ends.
 #[derive(Clone, Copy)]
 pub enum Ending {
-    /// They keep their duties, by a theorem.
+    /// The algorithms keep their duties, by a theorem.
     Proved,
-    /// No list of these broke a duty.
+    /// None of these lists of calls broke a duty.
     Tried { lists: u64, calls: u64 },
-    /// One of them broke a duty.
+    /// A call of one of the algorithms broke this duty.
     Broken { duty: Duty },
 }
 
-/// How a call broke its duty that ended so.
+/// How a call that ended so broke its duty.
 fn duty_of_end(end: CallEnd) -> Duty {
     match end {
         CallEnd::Ended(RunEnd::NoFuel { .. }) => Duty::NoFuel,
@@ -49,7 +49,7 @@ fn duty_of_end(end: CallEnd) -> Duty {
     }
 }
 
-/// How a call broke its duty. Of a cell that differs it is known whether it lies in the call's place.
+/// How a call broke its duty. `is_inside` says whether a cell that differs lies in the call's place.
 fn duty_of(broken: &Broken, is_inside: bool) -> Duty {
     match broken.breach {
         Breach::NotDone { end } => duty_of_end(end),
@@ -117,7 +117,7 @@ impl Ending {
         put_pieces(out, &[details])
     }
 
-    /// Puts its line. A fault may leave a beginning of it.
+    /// Puts the line of this ending. A fault may leave a beginning of it.
     #[tactic(auto, unfolding(crate::specs::Endings::first_line))]
     fn put_line<O: Sink>(self, out: &mut O) -> Result<(), OutputFault>
         ensures { Puts O.tells (O.state out.old) (O.state out.new) (first_line self) result }

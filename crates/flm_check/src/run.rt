@@ -16,7 +16,7 @@ const NO_MEMORY: u8 = 1;
 /// The status where the standard streams can't be held.
 const NO_STREAMS: u8 = 10;
 
-/// The line on a terminal that says how far the trials have come.
+/// The line on a terminal that shows how far the trials have come.
 #[derive(Drop)]
 struct Shown {
     line: ProgressLine,
@@ -28,8 +28,8 @@ impl Progress for Shown {
     }
 }
 
-/// Tries what the program's own arguments ask for: the status that it is to end with. Where there is no memory for the arguments that is 1. Where
-/// the standard streams can't be held no file is opened, and it is 10, as where standard output failed.
+/// Tries what the program's arguments ask for, and answers the status to end with. It is 1 if there is no memory for the arguments.
+/// If the standard streams can't be held, no file is opened and it is 10, as when standard output fails.
 pub fn run(rt: HostRuntime) -> ExitCode {
     match hold_streams(rt) {
         Ok(streams) => end(streams, read_arguments(rt)),
@@ -54,7 +54,7 @@ fn words_of(arguments: &[Word]) -> &[Word]
     &arguments[arguments.len().min(1)..]
 }
 
-/// The end where no stream can be held.
+/// Ends the program if the streams can't be held.
 fn end_without_streams(rt: HostRuntime) -> ExitCode
     ensures { exit_status result ≡ 10 }
 {
@@ -62,8 +62,8 @@ fn end_without_streams(rt: HostRuntime) -> ExitCode
     ExitCode::from(NO_STREAMS)
 }
 
-/// The call on files, with its text on standard output and its refusal on standard error. Where standard error is a terminal, a line there says
-/// meanwhile how far the trials have come.
+/// The call on files, with its text on standard output and its refusal on standard error. If standard error is a terminal, a line there
+/// shows how far the trials have come.
 fn call(streams: HeldStreams, words: &[Word]) -> u8 {
     let rt = streams.host();
     let line = ProgressLine::on_terminal(rt);

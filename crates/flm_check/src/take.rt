@@ -28,7 +28,7 @@ pub fn take_board_algorithms<'a, I: Inputs>(
     read_board_algorithms(alloc, &files)
 }
 
-/// Reads the board, and then an FLM file for each of its regions. There have to be as many.
+/// Reads the board, and then an FLM file for each of its regions. There must be as many files as regions.
 fn read_board_algorithms<'a>(alloc: Global, files: &Files) -> Result<BoardAlgorithms, Refusal<'a>>
     requires { IsSome files.now.flm }
     ensures { ReadsBoardAlgorithms (bytes_of files.now) result }

@@ -15,7 +15,7 @@ pub struct Request<'a> {
     pub rounds: Rounds,
 }
 
-/// A number that an option gives.
+/// The number that an option gives.
 #[derive(Clone, Copy)]
 enum Setting {
     Seed(u32),
@@ -74,7 +74,7 @@ fn rounds_of(setting: Setting) -> Rounds
     }
 }
 
-/// The rounds of two settings, which are of one kind each.
+/// The rounds of two settings, which must be of different kinds.
 fn rounds_of_both(one: Setting, other: Setting) -> Option<Rounds>
     ensures some { IfSome result (λ r. (name word other_name other_word : List ℕ) → IsSetting name word one → IsSetting other_name other_word other
         → AreOptions (name ∷ word ∷ other_name ∷ other_word ∷ []) r.seed r.rounds) }
@@ -108,7 +108,7 @@ fn read_options(options: &[Word]) -> Option<Rounds>
     }
 }
 
-/// What words ask for, or none where they fit no call.
+/// What words ask for, or none if they fit no call.
 pub fn read_words(words: &[Word]) -> Option<Request<'_>>
     ensures some { IfSome result (λ request. Asks words.now (asked_of request)) }
     ensures none { IfNone result ((asked : Asked) → Asks words.now asked → ⊥) }

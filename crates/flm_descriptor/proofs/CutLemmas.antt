@@ -1,10 +1,10 @@
--- Laws of pieces: where a range is cut.
+-- Laws of the pieces into which a range is cut.
 use Rattle.std.proofs.Common.{◌≡◌, ℕ, suc, ◌+◌, ◌-◌, ◌*◌, ◌<◌, ◌≤◌, arith, length, get_or, zero-add}
 use Rattle.std.proofs.Math.Nat.{le-div_iff_mul-le}
 use Rattle.std.proofs.lemmas.List.FromFn.{get_or-map-range_with_len, length-map-range_with_len}
 use Rattle.flm_descriptor.specs.Shape.{range, pieces, piece, cut}
 
--- a piece is there exactly where it begins before the end
+-- a piece exists exactly where it begins before the end
 pub pieces_below : (step start stop k : ℕ) → 1 ≤ step → k < pieces step start stop → start + k * step < stop
 unfolding pieces
 pieces_below step start stop k some h =

@@ -5,7 +5,7 @@ use Rattle.std.specs.List.{range_with_len}
 use Rattle.std.proofs.lemmas.List.FromFn.{map-range_with_len_more}
 use Rattle.flm_descriptor.specs.Described.{item_at}
 
--- one item more
+-- the items with one more
 pub items_more : (bytes : List ℕ) (at n : ℕ) → map (item_at bytes at) (range_with_len 0 (n + 1)) ≡ map (item_at bytes at) (range_with_len 0 n) ++ item_at bytes
     at n ∷ []
 items_more bytes at n = map-range_with_len_more (item_at bytes at) 0 n n (zero-add n)

@@ -1,4 +1,4 @@
--- What follows for every geometry.
+-- What holds for every geometry.
 use Rattle.std.proofs.Common.{◌≡◌, ℕ, ◌+◌, ◌*◌, ◌/◌, ◌%◌, ◌<◌, ◌≤◌, length, arith}
 use Rattle.std.proofs.Math.Nat.{mod-add-div'}
 use Rattle.flm_descriptor.specs.declared.geometry.Run.{Run}

@@ -8,7 +8,7 @@ use Rattle.flm_descriptor.specs.declared.items.SectorItem.{SectorItem}
 use Rattle.flm_descriptor.specs.Shape.{offset_at, size_at}
 use Rattle.flm_descriptor.specs.Limits.{order_fault, size_fault, falls, is_void}
 
--- the first item that doesn't begin above the one before
+-- the fault of the first item that doesn't begin above the one before it
 pub order_fault-here : (items : List SectorItem) (k : ℕ) → first_below (falls items) k ≡ None → k < length items - 1
     → offset_at items (k + 1) ≤ offset_at items k → order_fault items ≡ Some (SectorOrder (k + 1))
 unfolding order_fault
@@ -19,7 +19,7 @@ pub order_fault-none : (items : List SectorItem) → first_below (falls items) (
 unfolding order_fault
 order_fault-none items none = rw none refl
 
--- the first item without bytes
+-- the fault of the first item without bytes
 pub size_fault-here : (items : List SectorItem) (k : ℕ) → first_below (is_void items) k ≡ None → k < length items
     → size_at items k ≡ 0 → size_fault items ≡ Some (SectorSize k)
 unfolding size_fault

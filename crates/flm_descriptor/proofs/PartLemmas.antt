@@ -21,7 +21,7 @@ passes_step b p (Some x) n i here all before = before all
 passes_step true p None n i here all before = let e : n ≡ i = cc in rw (← e) here
 passes_step false p None n i here all before = cc
 
--- what is found passes
+-- the number that a search finds passes the test
 pub first_below-passes : (p : ℕ → Bool) (n i : ℕ) → first_below p n ≡ Some i → p i ≡ true
 first_below-passes p zero i found = let none = first_below-zero p in cc
 first_below-passes p (suc n) i found =
@@ -38,7 +38,7 @@ kind_step bytes name kind s (Some i) some found =
     let e : section_at bytes i ≡ s = cc in
     sym (eqb-true kind (section_at bytes i).kind parts.1 ∙ ap (λ (x : Section). x.kind) e)
 
--- a section that is found has the type that was sought
+-- a section that is found has the type that was searched for
 pub section_of-kind : (bytes name : List ℕ) (kind : ℕ) (s : Section) → section_of bytes name kind ≡ Some s → s.kind ≡ kind
 unfolding section_of
 section_of-kind bytes name kind s found = kind_step bytes name kind s (first_below (is_section bytes name kind) (e_shnum bytes)) refl found

@@ -31,7 +31,7 @@ pieces_none step start stop some h =
 pub pieces_some : (step start stop : ℕ) → 1 ≤ step → start < stop → 0 < pieces step start stop
 pieces_some step start stop some h = pieces_above step start stop 0 some (omega (arith, h))
 
--- the pieces of a range depend on its length alone
+-- the number of pieces of a range depends only on its length
 pub pieces_moved : (step start len : ℕ) → pieces step start (start + len) ≡ pieces step 0 len
 unfolding pieces
 pieces_moved step start len =

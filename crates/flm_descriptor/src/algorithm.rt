@@ -21,9 +21,8 @@ pub struct Entries {
     pub verify: Option<u32>,
 }
 
-/// A flash algorithm. Places are in bytes from the start of PrgCode; a part that is absent has length 0 and stands at the
-/// end of the one before it. The entries lie in the code, the parts follow one another, and the device's pages, items and
-/// limits are lawful.
+/// A flash algorithm. Places are in bytes from the start of PrgCode. A part that is absent has length 0 and begins where the one before it
+/// ends. The entries are in the code, and the parts follow one another. The device's pages, items and limits are lawful.
 #[derive(Drop)]
 pub struct Algorithm {
     pub code: Bytes,
@@ -53,7 +52,7 @@ impl Algorithm {
         count_sectors(self.device.size, self.items.as_slice()) as u32
     }
 
-    /// A copy, which says the same.
+    /// A copy of the algorithm, equal in contracts.
     pub fn copy(&self, alloc: Global) -> Result<Algorithm, OutOfMemory>
         ensures { IfOk result (λ copy. shown copy ≡ shown self.now) }
     {

@@ -4,8 +4,8 @@ use faults::OutOfMemory;
 use octets::Bytes;
 use std::alloc::Global;
 
-/// A flash device. Sizes are in bytes, times in milliseconds; `name` is what stands before the first zero byte of DevName,
-/// `empty` the value of erased memory.
+/// A flash device. Sizes are in bytes, times in milliseconds. `name` is the part of DevName before the first zero byte,
+/// and `empty` the value of erased memory.
 #[derive(Drop)]
 pub struct Device {
     pub vers: u16,
@@ -23,7 +23,7 @@ pub struct Device {
 impl Device {
     ghost use Rattle.std.specs.Prelude.{◌≡◌, IfOk};
 
-    /// An equal device.
+    /// A copy of the device.
     pub fn copy(&self, alloc: Global) -> Result<Device, OutOfMemory>
         ensures { IfOk result (λ copy. copy ≡ self.now) }
     {

@@ -32,7 +32,7 @@ impl Name {
     ghost use Rattle.std.specs.Prelude.{◌≡◌};
     ghost use Rattle.flm_descriptor.specs.Parts.{text_of};
 
-    /// The name as it stands in a file.
+    /// The name as a file writes it.
     #[tactic(auto, unfolding(crate::specs::Parts::text_of))]
     pub fn text(self) -> &'static [u8]
         ensures { result.now ≡ text_of self }
@@ -54,10 +54,10 @@ impl Name {
 /// Why an FLM file is refused. The first check that fails is answered, in the order of the variants.
 #[derive(Clone, Copy, Debug, PartialEq, Eq, Error)]
 pub enum FlmFault {
-    /// There was no memory for the call.
+    /// Out of memory.
     #[error("OutOfMemory")]
     OutOfMemory,
-    /// The file, or a part of it, is no ELF file for Arm.
+    /// The file, or a part of it, is refused as ELF for Arm.
     #[error("Elf {0}")]
     Elf(ElfFault),
     /// A section is missing.
@@ -66,16 +66,16 @@ pub enum FlmFault {
     /// A symbol is missing.
     #[error("NoSymbol {name}")]
     NoSymbol { name: Name },
-    /// A symbol, of this value in the file, lies outside its section.
+    /// A symbol, with this value in the file, is outside its section.
     #[error("SymbolOutside {name} {value:08X}")]
     SymbolOutside { name: Name, value: u32 },
     /// Code, data and zeroed data don't follow one another below 0xFFFFFFFF.
     #[error("DataBeforeCode")]
     DataBeforeCode,
-    /// Fewer than 160 bytes are there from FlashDevice to its section's end.
+    /// There are fewer than 160 bytes from FlashDevice to the end of its section.
     #[error("DescriptorShort")]
     DescriptorShort,
-    /// No end pair stands after at most 512 sector items of the section.
+    /// The first 512 sector items of the section are followed by no end pair.
     #[error("NoSectorEnd")]
     NoSectorEnd,
     /// A page has 0 bytes or more than 65,536.

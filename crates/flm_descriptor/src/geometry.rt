@@ -1,10 +1,10 @@
-//! How many sectors and pages a device has, before anything is known of its limits. Nothing walks over sectors or pages.
+//! How many sectors and pages a device has, computed before its limits are checked. No loop goes over sectors or pages.
 ghost use Rattle.std.specs.Prelude.{◌≡◌, ℕ, ◌+◌, ◌*◌, ◌<◌, ◌≤◌, ◌^◌, drop, length};
 ghost use Rattle.flm_descriptor.specs.Shape.{cut, item_end, pages_of, pieces, runs_of, sectors_of, size_at};
 
 use crate::items::SectorItem;
 
-/// Where the sectors of an item lie, and their size, all in bytes.
+/// Where the sectors of an item are, and their size, all in bytes.
 #[derive(Clone, Copy)]
 pub struct Run {
     pub start: u32,

@@ -4,7 +4,7 @@ use faults::OutOfMemory;
 use std::alloc::Global;
 use std::marker::Model;
 
-/// From the offset of an item, sectors have its size, both in bytes.
+/// A sector item: from this offset on, sectors have this size, both in bytes.
 #[derive(Clone, Copy, PartialEq, Eq)]
 pub struct SectorItem {
     pub size: u32,
@@ -29,7 +29,7 @@ impl Model for Items {
 impl Items {
     ghost use Rattle.std.specs.Prelude.{◌≡◌, IfOk};
 
-    /// Equal items.
+    /// A copy of the items.
     pub fn copy(&self, alloc: Global) -> Result<Items, OutOfMemory>
         ensures { IfOk result (λ copy. copy ≡ self.now) }
     {

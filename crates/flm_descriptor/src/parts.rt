@@ -1,4 +1,4 @@
-//! The named sections and symbols of an FLM file, and where they lie.
+//! The named sections and symbols of an FLM file, and where they are.
 ghost use Rattle.std.specs.Prelude.{◌≡◌, ◌<◌, ℕ, Some, codes, length, IfOk, IfSome};
 ghost use Rattle.flm_descriptor.specs.Lawful.{AreInside, AreInOrder};
 ghost use Rattle.elf32.specs.Tables.{section_of, section_part};
@@ -12,7 +12,7 @@ use crate::algorithm::Entries;
 use crate::fault::{FlmFault, Name};
 use elf32::{Elf, Section};
 
-/// The sections of an FLM file. A section of data that is absent or has no bytes is none.
+/// The sections of an FLM file. A section of data that is absent or empty is none.
 #[derive(Clone, Copy)]
 pub struct Sections {
     pub code: Section,
@@ -29,7 +29,7 @@ pub struct LentContents<'a> {
     pub descriptor: &'a [u8],
 }
 
-/// The values of the symbols, as they stand in the file.
+/// The values of the symbols, as the file has them.
 #[derive(Clone, Copy)]
 pub struct Symbols {
     pub init: u32,
@@ -41,7 +41,7 @@ pub struct Symbols {
     pub verify: Option<u32>,
 }
 
-/// The places of data and zeroed data from the start of the code, the zeroed data's length, and the static base.
+/// The places of data and zeroed data from the start of the code, the length of the zeroed data, and the static base.
 #[derive(Clone, Copy)]
 pub struct DataPlaces {
     pub data_at: u32,
@@ -66,7 +66,7 @@ pub fn find_sections(elf: &Elf) -> Result<Sections, FlmFault>
     })
 }
 
-/// A section of a program's own code or data that has to be there.
+/// A section of a program's own code or data that must be there.
 fn needed(elf: &Elf, name: Name) -> Result<Section, FlmFault>
     ensures section { result ≡ needed name (section_of elf.now (text_of name) 1) }
     ensures typed { IfOk result (λ section. section.kind ≡ 1) }
@@ -77,7 +77,7 @@ fn needed(elf: &Elf, name: Name) -> Result<Section, FlmFault>
     }
 }
 
-/// The section PrgData of a type, where it is there: one of size 0 counts as absent.
+/// The section PrgData of a type, if it is there: one of size 0 counts as absent.
 fn present(elf: &Elf, kind: u32) -> Option<Section>
     ensures section { result ≡ present (section_of elf.now (codes "PrgData") kind) }
     ensures typed { IfSome result (λ section. section.kind ≡ kind) }
@@ -149,7 +149,7 @@ pub fn find_symbols(elf: &Elf) -> Result<Symbols, FlmFault>
     })
 }
 
-/// The value of a symbol that has to be there.
+/// The value of a symbol that must be there.
 #[tactic(auto, unfolding(crate::specs::Parts::needed_value))]
 fn needed_value(elf: &Elf, name: Name) -> Result<u32, FlmFault>
     ensures { result ≡ needed_value elf.now name }
@@ -171,7 +171,7 @@ fn optional_value(elf: &Elf, name: Name) -> Result<Option<u32>, FlmFault>
     }
 }
 
-/// The place of an address in a section. `value` is the symbol's, for the refusal.
+/// The place of an address in a section. A refusal names `value`, the symbol's.
 pub fn place_in(section: &Section, name: Name, value: u32, address: u32) -> Result<u32, FlmFault>
     ensures place { result ≡ place_of section.now name value address }
     ensures inside { IfOk result (λ place. place < section.now.size) }
@@ -224,7 +224,7 @@ pub fn place_entries(code: &Section, symbols: &Symbols) -> Result<Entries, FlmFa
     })
 }
 
-/// The end of a section that must not begin before an address nor end above 0xFFFFFFFF; an absent one stands there.
+/// The end of a section, which must begin at `before` or above and end at 0xFFFFFFFF or below. An absent one ends at `before`.
 fn end_after(before: u32, section: Option<Section>) -> Result<u32, FlmFault>
     ensures { result ≡ end_after before section }
 {
@@ -239,7 +239,7 @@ fn end_after(before: u32, section: Option<Section>) -> Result<u32, FlmFault>
     }
 }
 
-/// Where a section stands, an absent one at an address.
+/// The address of a section; an absent one begins at `before`.
 fn start_or(before: u32, section: Option<Section>) -> u32
     ensures { result ≡ start_or before section }
 {
@@ -249,7 +249,7 @@ fn start_or(before: u32, section: Option<Section>) -> u32
     }
 }
 
-/// The size of a section, 0 for an absent one.
+/// The size of a section, or 0 for an absent one.
 fn size_or_none(section: Option<Section>) -> u32
     ensures { result ≡ size_or_none section }
 {

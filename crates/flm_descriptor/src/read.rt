@@ -31,7 +31,7 @@ const DEVICE_LEN: usize = 160;
 /// The bytes of a sector item.
 const ITEM_LEN: usize = 8;
 
-/// The most pairs that are looked at: 512 sector items (SECTOR_NUM), and the end pair.
+/// The most pairs that are looked at: 512 sector items (SECTOR_NUM) and the end pair.
 const PAIRS_MAX: usize = 513;
 
 /// The device that a file describes, and its items.
@@ -41,7 +41,7 @@ pub struct Description {
     pub items: Items,
 }
 
-/// Reads an FLM file. It is the algorithm of the file where there is one; else the first check that fails is answered.
+/// Reads an FLM file: the algorithm of the file, or else the first check that fails.
 #[tactic(auto, unfolding(crate::specs::Flm::flm_of))]
 pub fn read_flm(alloc: Global, bytes: &[u8]) -> Result<Algorithm, FlmFault>
     ensures ok { IfOk result (λ algorithm. IsFlm bytes.now (shown algorithm)) }
@@ -53,7 +53,7 @@ pub fn read_flm(alloc: Global, bytes: &[u8]) -> Result<Algorithm, FlmFault>
     algorithm(alloc, &elf, &sections, &contents)
 }
 
-/// The algorithm of sections and their bytes.
+/// The algorithm that some sections and their bytes make.
 #[tactic(auto, unfolding(crate::specs::Flm::algorithm_of))]
 fn algorithm(
     alloc: Global,
@@ -90,7 +90,7 @@ fn algorithm(
     })
 }
 
-/// The description that stands at a place of the section DevDscr.
+/// The description at a place of the section DevDscr.
 #[tactic(auto, unfolding(crate::specs::Flm::described_of))]
 fn describe(alloc: Global, descriptor: &[u8], at: u32) -> Result<Description, FlmFault>
     ensures described { Gives seen_description result (described_of descriptor.now at) }
@@ -128,7 +128,7 @@ fn read_device(alloc: Global, bytes: &[u8], at: usize) -> Result<Device, FlmFaul
     })
 }
 
-/// What stands before the first zero byte.
+/// The bytes before the first zero byte.
 fn before_zero(bytes: &[u8]) -> &[u8]
     ensures { result.now ≡ before_first is_zero bytes.now }
 {
@@ -160,7 +160,7 @@ fn read_items(alloc: Global, bytes: &[u8], at: usize) -> Result<Items, FlmFault>
     Ok(Items::from_vec(items))
 }
 
-/// How many items stand before the first end pair, and none where it isn't among the pairs that are looked at.
+/// How many items there are before the first end pair, or none if it isn't among the pairs that are looked at.
 fn count_items(bytes: &[u8], at: usize) -> Option<usize>
     requires { at + 160 ≤ length bytes.now }
     ensures count { result ≡ first_below (is_end bytes.now at) (pairs bytes.now at) }

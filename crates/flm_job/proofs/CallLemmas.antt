@@ -9,7 +9,7 @@ use Rattle.report_text.proofs.StatusLemmas.{some_status}
 use Rattle.command_files.specs.Call.{done, refused}
 use Rattle.flm_job.specs.Answers.{refused_line}
 
--- the line of a refusal that isn't of words
+-- the line of a refusal that isn't about the words
 pub refused_others : (e : value.Refusal) → (e ≡ variant.Usage → ⊥) → line_of (shown e) ≡ refused_line (shown e)
 refused_others variant.Usage other = absurd (other refl)
 refused_others e other = refl

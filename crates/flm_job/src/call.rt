@@ -51,7 +51,7 @@ fn work<'a, B: Bench, O: Sink>(
     }
 }
 
-/// The status of a refusal, whose line goes to `err`.
+/// Puts the line of a refusal on `err`, and answers its status.
 fn refuse<E: Sink>(err: &mut E, refusal: &Refusal<'_>) -> u8
     ensures status { result ≡ status_of (shown refusal.now) }
     ensures line { TookAll (sink_call E.tells (E.state err.old) (E.state err.new)) (refused_line (shown refusal.now))

@@ -18,8 +18,8 @@ const NO_MEMORY: u8 = 1;
 /// The status where the standard streams can't be held.
 const NO_STREAMS: u8 = 10;
 
-/// Reads out what the program's arguments ask for, and answers the status to end with. It is 1 if there is no memory for the arguments. If the
-/// standard streams can't be held, no file is opened and it is 10, as when standard output fails.
+/// Reads out what the program's arguments ask for, and answers the status to end with. It is 1 if there is no memory for the arguments.
+/// If the standard streams can't be held, no file is opened and it is 10, as when standard output fails.
 pub fn run(rt: HostRuntime) -> ExitCode {
     match hold_streams(rt) {
         Ok(streams) => end(streams, read_arguments(rt)),

@@ -1,2 +1,2 @@
--- Benches that were opened one beside the other.
+-- Benches of one program, each opened beside those before it.
 pub mod BesideLemmas

@@ -15,7 +15,7 @@ pub fn read_arguments(rt: HostRuntime) -> Result<Vec<Word>, OutOfMemory> {
     arguments_of(rt.alloc(), env::args(&rt))
 }
 
-/// The arguments of a command line that was read so. Where a word isn't UTF-8 there are none.
+/// The arguments of a command line that the system gave, if it could. If a word isn't UTF-8, the list is empty.
 fn arguments_of(alloc: Global, line: io::Result<Args>) -> Result<Vec<Word>, OutOfMemory>
     ensures taken { IfOk line (λ given. IfOk result (λ words. words.items ≡ texts_of given)) }
     ensures faulty { IfErr line (λ fault. error_kind fault ≡ InvalidData → IfOk result (λ words. words.items ≡ [])) }

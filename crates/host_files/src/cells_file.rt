@@ -1,4 +1,4 @@
-//! The cells of the device as a file with one byte a cell.
+//! The cells of the device as a file, one byte for each cell.
 ghost use Rattle.std.specs.Prelude.{◌≡◌, ◌≤◌, length, IfOk};
 ghost use Rattle.host_files.specs.declared.file_lock.Hold.TheVariants as hold;
 
@@ -10,9 +10,8 @@ use std::io;
 use std::io::ErrorKind;
 use std::os::unix::fs::FileExt;
 
-/// A cells file. One that can't be opened fails at every call but a sync, and one that can only be read at each call that
-/// begins an operation. So does a call where another program has the file locked, and one that begins an operation where
-/// another looks at it.
+/// A cells file. If it can't be opened, each call but a sync fails. If it can only be read, each call that begins an operation fails. A
+/// call also fails if another program has the file locked, and one that begins an operation if another program reads it.
 #[derive(Drop)]
 pub struct CellsFile {
     name: Word,
@@ -41,7 +40,7 @@ impl CellsFile {
         }
     }
 
-    /// Has each call fail from now on that another program's lock would have fail.
+    /// Makes each later call fail that another program's lock would make fail.
     pub fn shut(&mut self)
         ensures name { self.new.name ≡ self.old.name }
         ensures lock { self.new.lock.hold ≡ hold.Lost }
@@ -49,7 +48,7 @@ impl CellsFile {
         self.lock.lose();
     }
 
-    /// Says whether other programs are to be kept from reading the cells from the first call on, where none reads them then.
+    /// Sets whether other programs are kept from reading the cells from the first call on, unless one is reading them then.
     pub fn claim(&mut self, claims: bool)
         ensures name { self.new.name ≡ self.old.name }
         ensures lock { self.new.lock.hold ≡ self.old.lock.hold }
@@ -57,12 +56,12 @@ impl CellsFile {
         self.lock.claim(claims);
     }
 
-    /// The number of cells: the file's length, at most 2^32 - 1, or 0 where it can't be opened.
+    /// The number of cells: the file's length, at most 2^32 - 1, or 0 if it can't be opened.
     pub fn count(&self) -> u32 {
         self.count
     }
 
-    /// Which file of the system it is, if it could be opened.
+    /// The identity of the file, if it could be opened.
     pub fn id(&self) -> Option<FileId> {
         match &self.file {
             Some(file) => FileId::of(file).ok(),
@@ -84,7 +83,7 @@ impl CellsFile {
         owned(&self.file, &mut self.lock)?.write_at(bytes, at)
     }
 
-    /// Keeps other programs from reading and writing the cells, if there are any. Where one does, it is an error.
+    /// Keeps other programs from reading and writing the cells, if there are any. It is an error if one does.
     pub fn keep(&mut self) -> io::Result<()> {
         match &self.file {
             Some(file) => self.lock.own(file),
@@ -102,13 +101,13 @@ impl CellsFile {
         Ok(())
     }
 
-    /// Breaks off an operation, whose range keeps what stands there.
+    /// Breaks off an operation. Its range keeps the bytes that are there.
     pub fn break_off(&mut self) -> io::Result<()> {
         shared(&self.file, &mut self.lock)?;
         Ok(())
     }
 
-    /// Brings the cells to the disk, if there are any.
+    /// Syncs the cells to the disk, if there are any.
     pub fn sync(&mut self) -> io::Result<()> {
         match &self.file {
             Some(file) => file.sync_all(),
@@ -117,7 +116,7 @@ impl CellsFile {
     }
 }
 
-/// The file, if it could be opened, which no other program writes.
+/// The file, if it could be opened and no other program can write it.
 fn shared<'a>(file: &'a Option<File>, lock: &mut FileLock) -> io::Result<&'a File> {
     match file {
         Some(file) => {
@@ -128,7 +127,7 @@ fn shared<'a>(file: &'a Option<File>, lock: &mut FileLock) -> io::Result<&'a Fil
     }
 }
 
-/// The file, if it could be opened, which no other program reads or writes.
+/// The file, if it could be opened and no other program can read or write it.
 fn owned<'a>(file: &'a Option<File>, lock: &mut FileLock) -> io::Result<&'a File> {
     match file {
         Some(file) => {
@@ -139,8 +138,8 @@ fn owned<'a>(file: &'a Option<File>, lock: &mut FileLock) -> io::Result<&'a File
     }
 }
 
-/// Opens a file of cells, with its number of cells, and says whether it can be written. Where it can't, it is opened for
-/// reading. A folder is no such file.
+/// Opens a file of cells. Answers the file, its number of cells, and whether it can be written. If it can't, it is opened for
+/// reading. A folder is an error.
 fn open_file(rt: HostRuntime, name: &str) -> io::Result<(File, u32, bool)> {
     let (file, writable) = match OpenOptions::new().read(true).write(true).open(&rt, name) {
         Ok(file) => (file, true),

@@ -12,20 +12,20 @@ use bench_model::{Bench, DeviceFault, StoreFault};
 use disk_files::{DiskBench, WindowedDisk};
 use octets::Word;
 
-/// A bench that hands each call to the one in it. It counts on a line the cells that were erased and programmed, and knows which files of the
-/// system the one in it is over.
+/// A bench that passes each call to the bench in it. It counts the erased and programmed cells on a line, and knows which files of the
+/// system the bench in it is over.
 #[derive(Drop)]
 pub struct ShownBench<B> {
     bench: B,
     line: ProgressLine,
     // the length of the operation that was opened last
     open_len: u32,
-    // the job file where it was there when the bench was made, and the cells file
+    // the job file if it existed when the bench was made, and the cells file
     job: Option<FileId>,
     cells: Option<FileId>,
 }
 
-/// The bench over two files of the system. Since `HostDisk` tells nothing, neither does it.
+/// The bench over two files of the system. Contracts see no contents of it, since they see none of `HostDisk`.
 pub type FileBench = ShownBench<DiskBench<WindowedDisk<HostDisk>>>;
 
 /// Whether one of these benches has this file.
@@ -40,7 +40,7 @@ fn has_one(file: FileId, benches: &[FileBench]) -> bool
     false
 }
 
-/// Whether one of these benches has the file that was found, if one was.
+/// Whether a file was found and one of these benches has it.
 fn is_taken(benches: &[FileBench], found: Option<FileId>) -> bool
     ensures { result ≡ is_taken found benches.now }
 {
@@ -54,7 +54,7 @@ impl ShownBench<DiskBench<WindowedDisk<HostDisk>>> {
     ghost use Rattle.host_files.specs.Bench.{state_of, job_name_of, cells_name_of, IsBeside};
 
     /// Opens the cells file. One that can't be opened counts as no cells, and each call on it that can fail does. The
-    /// job file is opened by the first call on it.
+    /// first call on the job file opens it.
     pub fn new(rt: HostRuntime, job_name: Word, cells_name: Word) -> FileBench
         ensures job { job_name_of result ≡ job_name }
         ensures cells { cells_name_of result ≡ cells_name }
@@ -123,7 +123,7 @@ impl ShownBench<DiskBench<WindowedDisk<HostDisk>>> {
         }
     }
 
-    /// Counts from now on on this line which cells were erased and programmed.
+    /// From now on, counts the cells that were erased and programmed on this line.
     pub fn show_on(&mut self, line: ProgressLine)
         ensures job { job_name_of self.new ≡ job_name_of self.old }
         ensures cells { cells_name_of self.new ≡ cells_name_of self.old }
@@ -138,7 +138,7 @@ impl ShownBench<DiskBench<WindowedDisk<HostDisk>>> {
 }
 
 impl<B> ShownBench<B> {
-    /// Whether one of its files is this one.
+    /// Whether this is one of the bench's files.
     fn has(&self, file: FileId) -> bool
         ensures { result ≡ has_file file self.now }
     {

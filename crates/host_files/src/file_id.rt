@@ -1,4 +1,4 @@
-//! Which file of the system one is, whatever its name.
+//! Which file of the system a file is, whatever its name.
 ghost use Rattle.std.specs.Prelude.{◌≡◌};
 ghost use Rattle.host_files.specs.Bench.{is_file};
 
@@ -6,7 +6,7 @@ use std::fs::{File, Metadata};
 use std::os::unix::fs::MetadataExt;
 use std::{fs, io};
 
-/// A file's device, and its number there.
+/// The device of a file, and its number on that device.
 #[derive(Clone, Copy, PartialEq, Eq)]
 pub struct FileId {
     device: u64,
@@ -14,12 +14,12 @@ pub struct FileId {
 }
 
 impl FileId {
-    /// That of an open file.
+    /// The identity of an open file.
     pub fn of(file: &File) -> io::Result<FileId> {
         Ok(FileId::in_data(&file.metadata()?))
     }
 
-    /// That of the file to which this name leads, if there is one.
+    /// The identity of the file to which a name leads, if there is one.
     pub fn named(rt: HostRuntime, name: &str) -> Option<FileId> {
         match fs::metadata(&rt, name) {
             Ok(data) => Some(FileId::in_data(&data)),
@@ -27,7 +27,7 @@ impl FileId {
         }
     }
 
-    /// Whether this is the file that was found, if one was.
+    /// Whether a file was found and it is this one.
     pub fn matches(self, found: Option<FileId>) -> bool
         ensures { result ≡ is_file self found }
     {
@@ -37,7 +37,7 @@ impl FileId {
         }
     }
 
-    /// What the system says of a file.
+    /// The identity of a file by what the system says of it.
     fn in_data(data: &Metadata) -> FileId {
         FileId {
             device: data.dev(),

@@ -8,7 +8,7 @@ use std::alloc::Global;
 use std::marker::Model;
 use stream_files::SourceInputs;
 
-/// The system's files by their paths. They don't tell what stands under a name. A contract sees how often they have failed.
+/// The system's files by their paths. A contract doesn't see their contents, only how often they have failed.
 #[derive(Drop)]
 pub struct FileInputs {
     files: SourceInputs<HostSource>,

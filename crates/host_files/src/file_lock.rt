@@ -13,7 +13,7 @@ const PATIENCE: u64 = 1_000;
 /// The time before it is asked for again, in milliseconds.
 const PAUSE: u64 = 10;
 
-/// How many times it is asked for again at most, should the clock stand still.
+/// How many times the lock is asked for again at most, should the clock stop.
 const MOST_AGAIN: u32 = 100;
 
 /// What a program holds of a file.

@@ -1,4 +1,4 @@
--- The bytes of one data record have addresses of their own.
+-- The bytes of one data record have different addresses.
 use Rattle.std.proofs.Common.{◌≡◌, ◌≢◌, ◌≤◌, ◌<◌, ◌+◌, ◌*◌, ◌%◌, ◌∙◌, ℕ, zero, suc, List, [], ◌∷◌, length, get_or, Some, Bool, cond}
 use Rattle.std.proofs.Common.{ap, subst, arith}
 use Rattle.std.specs.List.{All}

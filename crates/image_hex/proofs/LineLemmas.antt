@@ -1,4 +1,4 @@
--- What is at fault with a line of Intel HEX, and what taking it answers.
+-- The fault of a line of Intel HEX, if it has one, and what taking the line answers.
 use Rattle.std.proofs.Common.{◌≡◌, ◌++◌, ◌≤◌, ◌+◌, ◌-◌, ◌*◌, ℕ, Bool, true, false, cond, List, [], ◌∷◌, Option, Some, None, Ok, Err, length, get_or, take, drop}
 use Rattle.std.proofs.Common.{refl, sym, ap, subst}
 use Rattle.std.specs.Prelude.{◌==◌, ◌&&◌, ◌||◌, not, nat_lt, slice_range}
@@ -79,7 +79,7 @@ line_as_hex lines line kind is = is
 pub faulty : (reading : Reading) (kind : HexKind) (before : List Cell) (base : Base) → reading ≡ Err kind → line_fault hex base before reading ≡ Some kind
 faulty reading kind before base is = ap (line_fault hex base before) is
 
--- a data record whose bytes were added
+-- a data record with its bytes added
 pub took_data : (reading : Reading) (before : List Cell) (base : Base) (offset : ℕ) (bytes : List ℕ) (image : List Run) →
     reading ≡ Ok (Some (Data offset bytes)) → length bytes ≤ 255
     → (first_clash before (data_cells base offset bytes) ≡ None) × IsImageOf (data_cells base offset bytes ++ before) image →

@@ -7,7 +7,7 @@ use Rattle.image_hex.specs.declared.fault.HexKind.TheVariants as hex_kind
 use Rattle.image_hex.specs.Hex.{hex, IsHexFault}
 use Rattle.record_lines.proofs.OneReading.{image_or_fault, image_or_no_end, fault_or_no_end, one_line_fault, one_no_end}
 
--- the two kinds of a fault of a text: of a line, or that it has no end
+-- the two kinds of a fault of a text: a fault of a line, or a missing end
 abbrev HexFaultIs : List (List ℕ) → ℕ → HexKind → Type 0
 HexFaultIs lines line kind = IsFaultOfLine hex lines line kind ⊎ ((kind ≡ hex_kind.NoEnd) × HasNoEnd hex lines line)
 

@@ -13,7 +13,7 @@ use Rattle.byte_map.proofs.Runs.{or_else}
 use Rattle.image_hex.specs.declared.record.Base.{Base}
 use Rattle.image_hex.specs.Hex.{address_of, data_cells}
 
--- bytes whose addresses follow one another
+-- bytes at addresses that follow one another
 pub straight : (base : Base) (offset at : ℕ) (bytes : List ℕ) → ((k : ℕ) → k < length bytes → address_of base (offset + k) ≡ at + k) →
     data_cells base offset bytes ≡ cells_from at bytes
 straight base offset at [] follow = refl
@@ -33,7 +33,7 @@ data_cells-append base offset (x ∷ xs) ys =
     (data_cells-append base (offset + 1) xs ys ∙ ap (λ (n : ℕ). data_cells base (offset + 1) xs ++ data_cells base n ys)
     (let is : offset + 1 + length xs ≡ offset + suc (length xs) = omega arith in is))
 
--- cells apart from some others clash as if those weren't there
+-- cells that share no address with some others clash as if those weren't there
 first_clash-apart : (others before : List Cell) (at : ℕ) (bytes : List ℕ) → ((a : ℕ) → at ≤ a → a < at + length bytes → held others a ≡ None) →
     first_clash (others ++ before) (cells_from at bytes) ≡ first_clash before (cells_from at bytes)
 first_clash-apart others before at [] apart = refl
@@ -94,7 +94,7 @@ two_pieces base offset first room low bytes count xs ys straight_is wrapped_is f
     ∙ ap (λ (cells : List Cell). cells_from first xs ++ cells) (straight base (offset + length xs) low ys (λ k lt.
     ap (address_of base) (let is : offset + length xs + k ≡ offset + (room + k) = omega (arith, front, back) in is) ∙ wrapped_is k (omega (arith, back))))
 
--- both pieces laid
+-- both pieces were added
 pub both_ok : (r : Result (Unit {0}) ClashFault) (cells : List Cell) (at at' : ℕ) (xs ys : List ℕ) (old mid new : List Run) → at' + length ys ≤ at →
     cells ≡ cells_from at xs ++ cells_from at' ys
     → ((before : List Cell) → IsImageOf before old → (first_clash before (cells_from at xs) ≡ None) × IsImageOf (cells_from at xs ++ before) mid)

@@ -1,4 +1,4 @@
--- Digits of the length that they count.
+-- Digits of records that have the length which they count.
 use Rattle.std.proofs.Common.{◌≡◌, ◌≤◌, ◌+◌, ◌*◌, ◌∙◌, ℕ, Bool, true, false, cond, List, length, get_or, Err, sym, ap, arith}
 use Rattle.std.specs.Prelude.{◌==◌, ◌||◌, not, nat_lt, unwrap_or}
 use Rattle.std.specs.List.{list_all}

@@ -1,11 +1,11 @@
-//! Why a text is no Intel HEX.
+//! Why a text of Intel HEX is refused.
 use thiserror::Error;
 
 /// Why a text was refused, and at which line. Lines count from 1; the count stops at 4,294,967,295.
 #[derive(Clone, Copy, Debug, PartialEq, Eq, Error)]
 #[error("line {line}: {kind}")]
 pub struct HexFault {
-    /// The line; 0 where no memory was left, or the text is empty.
+    /// The line, or 0 if no memory was left or the text is empty.
     pub line: u32,
     /// What is wrong with that line.
     pub kind: HexKind,

@@ -15,7 +15,7 @@ pub enum Base {
     Segment(u16),
 }
 
-/// A record, as far as an image needs it.
+/// A record, with what an image needs of it.
 #[derive(Drop)]
 pub enum HexRecord {
     /// Data bytes, with the offset of the first one from the base.
@@ -28,7 +28,7 @@ pub enum HexRecord {
     Ignored,
 }
 
-/// What a line says: nothing where it is blank, a record, or a fault.
+/// What a line reads as: nothing if it is blank, a record, or a fault.
 pub fn parse(line: &[u8]) -> Result<Option<HexRecord>, HexKind>
     ensures { result ≡ read_line line.now }
 {

@@ -15,7 +15,7 @@ use Rattle.octets.proofs.LineLemmas.{lines_of-none}
 use Rattle.record_lines.specs.Digits.{is_hex_digit, pairs}
 use Rattle.image_more.specs.Texts.{digits, text_of}
 
--- a number below 256
+-- a byte is a number below 256
 abbrev pub IsByte : ℕ → Type 0
 IsByte byte = byte < 256
 
@@ -25,7 +25,7 @@ pair_of byte small =
     ∙ ap (λ (o : Option ℕ). byte_of_values (Some (byte / 16)) o) (hex_value-upper_digit (byte % 16) (omega arith))
     ∙ ap (λ (n : ℕ). Some n) (let is : 16 * (byte / 16) + byte % 16 ≡ byte = omega arith in is)
 
--- digits that were written are read as their bytes
+-- the digits written for bytes are read as these bytes
 pub pairs-digits : (bytes : List ℕ) → All IsByte bytes → pairs (digits bytes) ≡ bytes
 pairs-digits [] small = refl
 pairs-digits (byte ∷ bytes) small =
@@ -49,7 +49,7 @@ digits-append : (xs ys : List ℕ) → digits (xs ++ ys) ≡ digits xs ++ digits
 digits-append [] ys = refl
 digits-append (x ∷ xs) ys = ap (λ (l : List ℕ). upper_digit (x / 16) ∷ upper_digit (x % 16) ∷ l) (digits-append xs ys)
 
--- the digits of one byte more, one by one
+-- the digits of one more byte, added one by one
 pub digits_next : (mark bytes line : List ℕ) (i d : ℕ) → i < length bytes → line ≡ mark ++ digits (take i bytes)
     → (line ++ upper_digit (get_or bytes i d / 16) ∷ []) ++ upper_digit (get_or bytes i d % 16) ∷ [] ≡ mark ++ digits (take (i + 1) bytes)
 digits_next mark bytes line i d less is =
@@ -59,7 +59,7 @@ digits_next mark bytes line i d less is =
     ∙ append_assoc mark (digits (take i bytes)) (upper_digit (byte / 16) ∷ upper_digit (byte % 16) ∷ [])
     ∙ ap (λ (l : List ℕ). mark ++ l) (sym (digits-append (take i bytes) (byte ∷ [])) ∙ ap digits (sym (take_more bytes i d less)))
 
--- Lines whose bytes are neither blanks nor line feeds.
+-- Lines without blanks and line feeds.
 
 abbrev pub IsMark : ℕ → Type 0
 IsMark byte = nat_le 48 byte ≡ true
@@ -107,7 +107,7 @@ whole-marks (byte ∷ line) rest marks =
     (no_feed byte (All-head IsMark byte line marks))
     ∙ ap (in_front byte) (whole-marks line rest (All-tail IsMark byte line marks))
 
--- a text of such lines has them as its lines
+-- a text made of lines without blanks and line feeds has them as its lines
 pub lines_of-text : (lines : List (List ℕ)) → All (λ line. All IsMark line) lines → lines_of (text_of lines) ≡ lines
 lines_of-text [] marks = lines_of-none
 lines_of-text (line ∷ lines) marks =

@@ -10,7 +10,7 @@ use Rattle.image_more.specs.Files.{IsUnionBefore, HasByte}
 use Rattle.image_more.specs.Place.{file_at}
 use Rattle.image_more.proofs.AnyLemmas.{one_any_image}
 
--- a byte of a union is one of the two images'
+-- each byte of a union is a byte of one of the two images
 from_either : (x y union : List Run) (a byte : ℕ) (new : Option ℕ) → IsUnion x y union → byte_at y a ≡ new → byte_at union a ≡ Some byte →
     (byte_at y a ≡ Some byte) ⊎ (byte_at x a ≡ Some byte)
 from_either x y union a byte None is new_is byte_is = inr (sym (is.same a ∙ byte_at-append y x a ∙ ap (λ (o : Option ℕ). or_else o (byte_at x a)) new_is) ∙

@@ -63,7 +63,7 @@ row_cells row is =
     straight (row.at / 65536) (row.at % 65536) row.bytes (omega (arith, is.inside, is.some)) (omega (arith, is.fits))
     ∙ ap (λ (n : ℕ). cells_from n row.bytes) (let n : row.at / 65536 * 65536 + row.at % 65536 ≡ row.at = omega arith in n)
 
--- what is known of the base where an upper half was written
+-- what is known of the base after an upper half was written
 abbrev IsKnown : Option ℕ → Base → Type 0
 IsKnown None base = Unit {0}
 IsKnown (Some upper) base = base ≡ Upper upper

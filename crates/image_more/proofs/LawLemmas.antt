@@ -25,7 +25,7 @@ hex_read_alone map other is read = one_text_image hex (lines_of (hex_text map)) 
 pub srec_read_alone : (map other : List Run) → IsByteMap map → IsImageOfText srec (lines_of (srec_text map)) other → other ≡ map
 srec_read_alone map other is read = one_text_image srec (lines_of (srec_text map)) other map read (srec_is_read map is)
 
--- The first byte of a text tells its form.
+-- The first byte of a text shows its form.
 
 begins_hex : (rows : List Run) → form_of None (text_of (rows_lines (Hex None) rows ++ codes ":00000001FF" ∷ [])) ≡ Some form.Hex
 unfolding hex_line

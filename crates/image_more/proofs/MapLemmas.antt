@@ -1,4 +1,4 @@
--- The rows of a map: where they lie, and that they have the map's bytes and no other.
+-- The rows of a map: where they are, and that they have the map's bytes and no other.
 use Rattle.std.proofs.Common.{◌≡◌, ⊎_elim, ◌≤◌, ◌<◌, ◌+◌, ◌-◌, ◌%◌, ◌++◌, ◌∙◌, sym, ap, subst, refl, arith, ℕ, suc, Bool, true, false, cond, List, []}
 use Rattle.std.proofs.Common.{◌∷◌, length, Option, Some, None}
 use Rattle.std.specs.Prelude.{◌==◌}
@@ -19,7 +19,7 @@ pub record IsRow (row : Run) : Type 0 where
   pub inside : end_of row ≤ 4294967296
   pub small : All IsByte row.bytes
 
--- rows that rise, from an address on
+-- rows at rising addresses, from `low` on
 abbrev pub AreRows : ℕ → List Run → Type 0
 AreRows low [] = Unit {0}
 AreRows low (row ∷ rows) = (low ≤ row.at) × IsRow row × AreRows (end_of row) rows
@@ -28,7 +28,7 @@ rows_from : (low lower : ℕ) (rows : List Run) → AreRows low rows → lower �
 rows_from low lower [] are le = tt
 rows_from low lower (row ∷ rows) are le = (omega (arith, are.0, le), are.1, are.2)
 
--- nothing stands below them
+-- rows have no byte below the first of them
 none_below : (low : ℕ) (rows : List Run) (a : ℕ) → AreRows low rows → a < low → byte_at rows a ≡ None
 none_below low [] a are lt = refl
 none_below low (row ∷ rows) a are lt =
@@ -49,7 +49,7 @@ run_starts : (at : ℕ) (bytes : List ℕ) → StartAt at (run_rows at bytes)
 run_starts at [] = tt
 run_starts at (byte ∷ bytes) = start_with at byte ((at + 1) % 16 == 0) (run_rows (at + 1) bytes)
 
--- a row of one byte
+-- a single byte is a row
 byte_row : (at byte : ℕ) → at < 4294967296 → byte < 256 → IsRow (record { at = at; bytes = byte ∷ [] })
 byte_row at byte inside small = record {
   some = omega arith;
@@ -94,7 +94,7 @@ run_rows_are at (byte ∷ bytes) later fits small are =
 abbrev AreBytes : Run → Type 0
 AreBytes run = All IsByte run.bytes
 
--- the rows of a map
+-- the rows of a map rise
 pub rows_are : (low : ℕ) (map : List Run) → AreMaximal low addresses map → All AreBytes map → AreRows low (rows_of map)
 rows_are low [] maximal small = tt
 rows_are low (run ∷ map) maximal small =
@@ -103,9 +103,9 @@ rows_are low (run ∷ map) maximal small =
     (rows_from (end_of run + 1) (end_of run) (rows_of map) (rows_are (end_of run + 1) map maximal.3 (All-tail AreBytes run map small)) (omega arith)))
     maximal.0
 
--- Their bytes.
+-- The bytes of rows.
 
--- the byte of the first run of some, or of the others
+-- a byte of the first run's cells, or else of the other runs
 as_cells : (run : Run) (runs : List Run) (a : ℕ) → byte_at (run ∷ runs) a ≡ or_else (held (cells_from run.at run.bytes) a) (byte_at runs a)
 as_cells run runs a =
     byte_at-append (run ∷ []) runs a
@@ -146,7 +146,7 @@ or_none : (x y : Option ℕ) → or_else (or_else x None) y ≡ or_else x y
 or_none None y = refl
 or_none (Some byte) y = refl
 
--- one row is read
+-- the bytes of the rows to come and of the cells so far are the same once the next row is among these cells
 pub row_moved : (row : Run) (rows : List Run) (cells : List Cell) (a : ℕ) → AreRows (end_of row) rows
     → or_else (byte_at (row ∷ rows) a) (held cells a) ≡ or_else (byte_at rows a) (held (cells_from row.at row.bytes ++ cells) a)
 row_moved row rows cells a are =
@@ -165,7 +165,7 @@ row_moved row rows cells a are =
     (cases_lt a (end_of row))
     ∙ ap (or_else (byte_at rows a)) (sym (held-append (cells_from row.at row.bytes) cells a))
 
--- nothing stands above the rows that were read
+-- the rows that were read have no byte above their end
 pub none_above : (low : ℕ) (row : Run) (cells : List Cell) → low ≤ row.at → ((a : ℕ) → low ≤ a → held cells a ≡ None) →
     (a : ℕ) → end_of row ≤ a → held (cells_from row.at row.bytes ++ cells) a ≡ None
 none_above low row cells from none a high =

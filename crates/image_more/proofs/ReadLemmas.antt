@@ -1,4 +1,4 @@
--- What the lines of records that were written are read as.
+-- What written lines of records are read as.
 use Rattle.std.proofs.Common.{◌≡◌, ◌≤◌, ◌<◌, ◌+◌, ◌-◌, ◌*◌, ◌/◌, ◌%◌, ◌^◌, ◌++◌, ◌∙◌, sym, ap, refl, arith, ℕ, Bool, true, false, cond, List, [], ◌∷◌, length}
 use Rattle.std.proofs.Common.{get_or, take, drop, Some, Ok, Err}
 use Rattle.std.specs.Prelude.{◌==◌, ◌||◌, not, nat_lt, nat_le, slice_range}
@@ -28,7 +28,7 @@ no_more a b le = grind (arith, nat_tests)
 
 -- Intel HEX.
 
--- a record whose checksum stands at a place
+-- the reading of a record by the place of its checksum
 abbrev hex_at : List ℕ → ℕ → hex_record.Reading
 hex_at all n =
     cond (get_or all n 0 == hex_record.checksum_of (take n all))
@@ -76,7 +76,7 @@ small_hex kind offset bytes kind_small offset_small few small =
     (All-cons IsByte kind bytes kind_small small))))
     (hex_sum_small _)
 
--- the line of a record of Intel HEX
+-- the line written for a record of Intel HEX is read as that record
 pub hex_read : (kind offset : ℕ) (bytes : List ℕ) → kind < 256 → offset < 65536 → length bytes ≤ 16 → All IsByte bytes →
     hex_record.read_line (hex_line kind offset bytes) ≡ hex_record.record_of kind offset bytes
 unfolding hex_line
@@ -147,7 +147,7 @@ small_srec row inside few small =
     (All-cons IsByte (at % 256) row.bytes (omega arith) small)))))
     (srec_sum_small _)
 
--- the line of an S3 record
+-- the line written for an S3 record is read as that record
 pub srec_read : (row : Run) → row.at < 2 ^ 32 → length row.bytes ≤ 16 → All IsByte row.bytes →
     srec_record.read_line (srec_line row) ≡ Ok (Some (srec_type.Data row.at row.bytes))
 unfolding srec_line

@@ -1,4 +1,4 @@
--- Rows, and the lines of rows that are put one after the other.
+-- Rows, and the lines of rows that are put one after another.
 use Rattle.std.proofs.Common.{◌≡◌, ◌⊎◌, ⊎_elim, ◌≤◌, ◌<◌, ◌+◌, ◌-◌, ◌%◌, ◌++◌, ◌∙◌, sym, ap, subst, refl, arith, Bool, true, false, min, ℕ, zero, suc, List, []}
 use Rattle.std.proofs.Common.{◌∷◌, length, take, drop, append_assoc, append-nil, Ok, Err}
 use Rattle.std.specs.Prelude.{◌==◌, slice_get, slice_range, Some}
@@ -17,7 +17,7 @@ use Rattle.image_more.specs.Behind.{form_behind}
 use Rattle.outside_io.specs.Gathers.{Gathers}
 use Rattle.outside_io.proofs.GatherLemmas.{gathers_nothing, gathers_as, gathers_then, gathers_stops}
 
--- The rows of a run: first as many bytes as there are up to a multiple of 16.
+-- The rows of a run: the first one ends at a multiple of 16.
 
 last_row : (at byte : ℕ) (bytes : List ℕ) (b : Bool) → length bytes < 1
     → with_byte at byte b (run_rows (at + 1) bytes) ≡ record { at = at; bytes = byte ∷ [] } ∷ run_rows (at + 1) bytes
@@ -90,14 +90,14 @@ one_row form row = ap text_of (sym (append-nil (row_lines form row)))
 pub text-both : (xs ys : List (List ℕ)) → text_of xs ++ text_of ys ≡ text_of (xs ++ ys)
 text-both xs ys = sym (flat_map-append (λ (line : List ℕ). line ++ 10 ∷ []) xs ys)
 
--- of all rows, written from `first` on, some were gathered, and the rest are to be written from `form` on
+-- the lines of some of the rows were gathered, and the rest are still to be written
 pub record HasGathered (tells : Bool) (old now : SinkState) (waited waits : List ℕ) (first form : RowForm) (all rest : List Run) : Type 0 where
   pub part : List ℕ
   pub gathers : Gathers tells old now waited waits part (Ok tt)
   pub text_is : part ++ text_of (rows_lines form rest) ≡ text_of (rows_lines first all)
   pub form_is : form_behind form rest ≡ form_behind first all
 
--- none was gathered
+-- no row was gathered so far
 pub rows_none : (tells : Bool) (a : SinkState) (w : List ℕ) (first : RowForm) (all rest : List Run) → rest ≡ all →
     HasGathered tells a a w w first first all rest
 rows_none tells a w first all rest is = record {
@@ -117,7 +117,7 @@ module _ {tells : Bool} {a b : SinkState} {v w : List ℕ} {first form : RowForm
       append_assoc h.part (text_of (rows_lines form rows)) (text_of (rows_lines (form_behind form rows) later))
       ∙ ap (λ (l : List ℕ). h.part ++ l) rest_text ∙ h.text_is
 
-  -- more rows
+  -- more rows were gathered
   pub rows_more : {c : SinkState} {x : List ℕ} {u : Unit {0}} (next : RowForm) → next ≡ form_behind form rows →
       Gathers tells b c w x (text_of (rows_lines form rows)) (Ok u)
       → HasGathered tells a c v x first next all later
@@ -128,13 +128,13 @@ module _ {tells : Bool} {a b : SinkState} {v w : List ℕ} {first form : RowForm
     form_is = ap (λ (f : RowForm). form_behind f later) next_is ∙ sym (behind-append form rows later) ∙ ap (form_behind form) (sym is) ∙ h.form_is;
   }
 
-  -- rows that a fault broke off
+  -- a fault broke off the gathering of rows
   pub rows_break : {c : SinkState} {x : List ℕ} {e : OutputFault} → Gathers tells b c w x (text_of (rows_lines form rows)) (Err e)
       → Gathers tells a c v x (text_of (rows_lines first all)) (Err e)
   rows_break {c} {x} {e} gathers = gathers_as all_text (gathers_stops (text_of (rows_lines (form_behind form rows) later))
       (gathers_then (Err e) h.gathers gathers))
 
--- none are left
+-- all rows were gathered
 pub rows_gathered : {tells : Bool} {a b : SinkState} {v w : List ℕ} {first form : RowForm} {all rest : List Run} → rest ≡ [] →
     HasGathered tells a b v w first form all rest
     → Gathers tells a b v w (text_of (rows_lines first all)) (Ok tt)

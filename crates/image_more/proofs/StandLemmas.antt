@@ -43,7 +43,7 @@ module _ {C R F : Type 0} (f : Format C R F) (lines : List (List ℕ)) (n : ℕ)
         ∙ ap (λ (r : Result (Option R) F). line_fault f c cells r) reads
         ∙ right
 
-    -- one line more
+    -- the next line is right and doesn't end the text
     pub stands_more : line_ends f reading ≡ false → Stands f lines (suc n) rest (f.behind reading c) (line_cells f c reading ++ cells)
     stands_more goes_on = record {
       rest_is = ap (λ (k : ℕ). drop k lines) (let more : suc n ≡ n + 1 = omega arith in more) ∙ sym (drop-drop 1 n lines) ∙ ap (drop 1) h.rest_is;
@@ -59,7 +59,7 @@ module _ {C R F : Type 0} (f : Format C R F) (lines : List (List ℕ)) (n : ℕ)
           ∙ ap (λ (before : List Cell). line_cells f c reading ++ before) h.cells_are;
     }
 
-    -- the line that ends the text
+    -- the next line is the one that ends the text
     pub stands_end : (image : List Run) → line_ends f reading ≡ true → IsImageOf cells image → IsImageOfText f lines image
     stands_end image ends image_is = record {
       place = n;

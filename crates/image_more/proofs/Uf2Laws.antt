@@ -26,14 +26,14 @@ one_union runs one two u v = one_list 0 addresses one two u.maximal v.maximal (�
 pub one_uf2_image : (bytes : List ℕ) (one two : List Run) → IsUf2Image bytes one → IsUf2Image bytes two → one ≡ two
 one_uf2_image bytes one two u v = one_union (runs_before bytes (block_count bytes)) one two u.blocks.union v.blocks.union
 
--- what holds of the runs of some blocks, of those of fewer
+-- what holds for the runs of some blocks holds for those of fewer blocks
 fewer : (P : Run → Type 0) (bytes : List ℕ) (n k : ℕ) → All P (runs_before bytes (n + k)) → All P (runs_before bytes n)
 fewer P bytes n zero all = subst (λ (m : ℕ). All P (runs_before bytes m)) (let z : n + 0 ≡ n = omega arith in z) all
 fewer P bytes n (suc k) all =
     fewer P bytes n k (All-front P (runs_before bytes (n + k)) (runs_of (block_at bytes (n + k)))
     (subst (λ (m : ℕ). All P (runs_before bytes m)) (let z : n + suc k ≡ suc (n + k) = omega arith in z) all))
 
--- an image has what the image of fewer runs has
+-- an image has each byte that the image of fewer runs has
 kept_by : (runs part whole : List Run) (a byte : ℕ) (o : Option ℕ) → byte_at runs a ≡ o → IsUnionOf runs part → All (HasRun whole) runs →
     byte_at part a ≡ Some byte → byte_at whole a ≡ Some byte
 kept_by runs part whole a byte None is u all there = let none = u.only a (none_holds runs a is) in absurd (cc)

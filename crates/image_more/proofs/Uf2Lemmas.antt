@@ -26,7 +26,7 @@ first_refused : (bytes : List ℕ) (k : ℕ) (image : List Run) (fault : Uf2Faul
 first_refused bytes k image fault whole inside before is =
     record { whole = whole; place = k; inside = inside; image = image; before = before; refused = is }
 
--- a refused block as a refused file
+-- a refused block makes its file refused
 pub block_refused : (bytes : List ℕ) (k : ℕ) (image : List Run) (fault : Uf2Fault) → IsWhole bytes → k < block_count bytes → IsImageBefore bytes k image
     → IsBlockFault (k + 1) (block_at bytes k) image fault → IsUf2Fault bytes fault
 block_refused bytes k image (BadLength len) whole inside before is = absurd is

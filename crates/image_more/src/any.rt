@@ -11,8 +11,8 @@ use std::alloc::Global;
 /// The first magic number of UF2 as bytes: `UF2` and a line feed.
 const MAGIC: [u8; 4] = [b'U', b'F', b'2', b'\n'];
 
-/// Reads an image file. With an address its bytes are the image's from there on. Without one its first bytes tell its form: UF2,
-/// ELF, Intel HEX or S-records. The first check that fails is answered.
+/// Reads an image file. If an address is given, the file's bytes are those of the image from there on. Otherwise its first bytes show its
+/// form: UF2, ELF, Intel HEX or S-records. The first check that fails is answered.
 pub fn read_any(alloc: Global, bytes: &[u8], raw_at: Option<u32>) -> Result<ByteMap, AnyFault>
     ensures ok { IfOk result (IsAnyImage raw_at bytes.now) }
     ensures err { IfErr result (IsAnyFault raw_at bytes.now) }

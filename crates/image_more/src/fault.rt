@@ -3,7 +3,7 @@ use byte_map::LayFault;
 use image_set::ImageFault;
 use thiserror::Error;
 
-/// Why a file is no UF2 image. Blocks count from 1.
+/// Why a UF2 file is refused. Blocks count from 1.
 #[derive(Clone, Copy, Debug, PartialEq, Eq, Error)]
 pub enum Uf2Fault {
     /// The file is empty, or its length in bytes isn't a whole number of blocks of 512 bytes.

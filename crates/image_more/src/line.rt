@@ -48,7 +48,7 @@ pub fn gather_srec_line<O: Sink>(
     gather_digits(out, text, b"S3", packed.as_slice())
 }
 
-/// The bytes of an S3 record but for its checksum.
+/// The bytes of an S3 record before its checksum.
 fn pack_srec(at: u32, bytes: &[u8]) -> ArrayVec<u8, 22>
     requires { length bytes.now ≤ 16 }
     ensures items { result.items ≡ srec_bytes (record { at = at; bytes = bytes.now }) }

@@ -1,4 +1,4 @@
--- An image file stands for one image, or has one fault.
+-- An image file has one image or one fault.
 use Rattle.std.proofs.Common.{◌≡◌, ◌≢◌, ◌^◌, ◌∙◌, sym, ap, subst, refl, arith, ℕ, List, Option, Some, None}
 use Rattle.octets.specs.Lines.{lines_of}
 use Rattle.byte_map.specs.Image.{Run}
@@ -30,7 +30,7 @@ one_image_of (Some form.Srec) bytes a b one two = one_text_image srec (lines_of 
 pub one_image : (raw_at : Option ℕ) (bytes : List ℕ) (a b : List Run) → IsImage raw_at bytes a → IsImage raw_at bytes b → a ≡ b
 one_image raw_at bytes a b one two = one_image_of (form_of raw_at bytes) bytes a b one two
 
--- a run past 2^32 isn't an image
+-- a file with a run past 2^32 has no image
 past_end : (f : Option Form) (bytes : List ℕ) (image : List Run) (at : ℕ) → IsImageOfForm f bytes image → GoesPastEnd f bytes at → ⊥
 past_end None bytes image at one two = one
 past_end (Some (form.Raw from)) bytes image at one two = omega (arith, one.fits, two.1)
@@ -112,7 +112,7 @@ srec_fault bytes EmptyImage is other = absurd is
 srec_fault bytes OutOfMemory is other = absurd (other refl)
 srec_fault bytes a is other = let wrong = is.0 in absurd (cc)
 
--- a fault of an ELF file: of the format, or a refused segment
+-- a fault of an ELF file: of the file itself, or of a segment
 elf_faults : (bytes : List ℕ) (a b : ImageFault) → IsFaultOfForm (Some form.Elf) bytes a → IsFaultOfForm (Some form.Elf) bytes b
     → a ≢ OutOfMemory → b ≢ OutOfMemory → a ≡ b
 elf_faults bytes (Elf a) (Elf b) one two no_a no_b = ap Elf (one_elf_fault bytes a b one.1 two.1)

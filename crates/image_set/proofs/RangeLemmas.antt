@@ -16,7 +16,7 @@ value_of : (o : Option ℕ) → IsSome o → (x : ℕ) × (o ≡ Some x)
 value_of None is = absurd (cc)
 value_of (Some x) is = (x, refl)
 
--- the first `n` runs lie in ranges
+-- each of the first `n` runs is within the ranges
 abbrev pub LieBefore : List Run → List (ℕ × ℕ) → ℕ → Type 0
 LieBefore runs ranges n = (k : ℕ) → k < n → (a : ℕ) → (run_at runs k).at ≤ a → a < end_of (run_at runs k) → IsTrue (is_inside ranges a)
 
@@ -45,7 +45,7 @@ inside_below runs ranges k at a j m lt each outside below within held =
     (cases_lt k j))
     (cases_lt j k)
 
--- the least address of a run that is in no range, where the runs before it lie in ranges
+-- the least address of a run that is in no range, where the runs before it are within the ranges
 pub least_outside : (runs : List Run) (ranges : List (ℕ × ℕ)) (k at : ℕ) → AreMaximal 0 (2 ^ 32) runs → k < length runs → LieBefore runs ranges k →
     IsOutside (run_at runs k).at (end_of (run_at runs k)) ranges at → IsLeastOutside runs ranges at
 least_outside runs ranges k at m lt each outside =

@@ -121,7 +121,7 @@ one_elf_fault bytes a b one two = ⊎_elim
     (λ (two : IsFirstRefused bytes (Elf b)). let same = one_refused bytes (Elf a) (Elf b) one two (λ is. cc) (λ is. cc) in cc) two)
     one
 
--- a fault of the file or of a segment's bytes, and another refused segment
+-- a fault of the file or of a segment's bytes is the same as that of a refused segment
 pub elf_or_segment : (bytes : List ℕ) (a : ElfFault) (b : ImageFault) → IsElfFault bytes a → IsFirstRefused bytes b → b ≢ OutOfMemory → Elf a ≡ b
 elf_or_segment bytes a b one two no_b = ⊎_elim
     (λ (one : file_fault bytes ≡ Some a). let none = two.readable in absurd (cc))

@@ -19,7 +19,7 @@ use Rattle.image_set.specs.declared.form.Form.TheVariants as form
 use Rattle.image_set.specs.declared.fault.ImageFault.{ImageFault}
 use Rattle.image_set.specs.declared.fault.ImageFault.TheVariants.{Elf, Conflict, PastEnd, OutsideDevice, EmptyImage, OutOfMemory}
 
--- agreement asks for the image's bytes alone
+-- whether a piece agrees with an image depends only on the image's bytes
 pub agrees_same : (piece : Run) (image other : List Run) (limit : ℕ) → IsSameMap image other → AgreesBelow piece image limit → AgreesBelow piece other limit
 agrees_same piece image other limit same agrees a byte lt held is = agrees a byte lt held (same a ∙ is)
 
@@ -36,7 +36,7 @@ pub size_more : (bytes : List ℕ) (k : ℕ) (loaded : Bool) → is_loaded bytes
 size_more bytes k loaded is =
     ap (size_before bytes) (add-one k) ∙ ap (λ (b : Bool). cond b (length (piece_at bytes k).bytes + size_before bytes k) (size_before bytes k)) is
 
--- one more segment that is loaded
+-- one more segment, which is loaded
 pub segment_more : (bytes : List ℕ) (k : ℕ) (image new : List Run) → IsImageBefore bytes k image → is_loaded bytes k ≡ true → is_cut_at bytes k ≡ false →
     Lays (piece_at bytes k) image new → IsImageBefore bytes (k + 1) new
 segment_more bytes k image new before loaded whole lays =
@@ -51,7 +51,7 @@ segment_more bytes k image new before loaded whole lays =
       maximal = lays.maximal;
     }
 
--- one that isn't
+-- one more segment, which isn't loaded
 pub segment_skipped : (bytes : List ℕ) (k : ℕ) (image : List Run) → IsImageBefore bytes k image → is_loaded bytes k ≡ false → IsImageBefore bytes (k + 1) image
 segment_skipped bytes k image before skipped =
     record {
@@ -71,7 +71,7 @@ clash_same piece image other at old new same clash =
       first = agrees_same piece image other at same clash.first;
     }
 
--- a refusal asks for the image's bytes alone
+-- whether a segment is refused depends only on the image's bytes
 pub fault_same : (bytes : List ℕ) (k : ℕ) (image other : List Run) (fault : ImageFault) → IsSameMap image other → IsSegmentFault bytes k image fault →
     IsSegmentFault bytes k other fault
 fault_same bytes k image other (Conflict at old new) same is = (is.0, (is.1.0, clash_same (piece_at bytes k) image other at old new same is.1.1))
@@ -81,7 +81,7 @@ part_by : (cut : Bool) (fault : ElfFault) (own lent : List ℕ) → cond cut (Er
 part_by true fault own lent is = absurd (cc)
 part_by false fault own lent is = cc
 
--- the bytes of a segment that ends in the file
+-- the bytes of a segment that ends within the file
 pub part_is : (bytes : List ℕ) (k : ℕ) (lent : List ℕ) → segment_part bytes k ≡ Ok lent → lent ≡ (piece_at bytes k).bytes
 unfolding segment_part whole_part
 part_is bytes k lent is =
@@ -102,7 +102,7 @@ cut_by : (cut : Bool) (due fault : ElfFault) (own : List ℕ) → cond cut (Err 
 cut_by true due fault own is = (refl, cc)
 cut_by false due fault own is = absurd (cc)
 
--- one that doesn't
+-- a segment that goes past the end of the file is refused
 pub is_refused : (bytes : List ℕ) (k : ℕ) (image : List Run) (fault : ElfFault) → segment_part bytes k ≡ Err fault
     → IsSegmentFault bytes k image (Elf fault)
 unfolding segment_part whole_part
@@ -110,7 +110,7 @@ is_refused bytes k image fault is =
     let s = segment_at bytes k in
     cut_by (is_cut bytes s.offset s.filesz) (Truncated field.Segment) fault (part bytes s.offset s.filesz) is
 
--- a segment whose bytes were not added
+-- a segment with bytes that couldn't be added is refused
 pub lay_refused : (bytes : List ℕ) (k : ℕ) (image : List Run) (fault : LayFault) → segment_part bytes k ≡ Ok (piece_at bytes k).bytes →
     IsLayFault (piece_at bytes k) image fault → IsSegmentFault bytes k image (fault_of fault)
 lay_refused bytes k image (lay.Conflict at old new) whole is = (is_whole bytes k (piece_at bytes k).bytes whole, is)
@@ -129,7 +129,7 @@ first_refused bytes k image fault readable inside loaded before is =
       refused = fault_same bytes k image (pieces_before bytes k) fault before.union is;
     }
 
--- a refused segment as a refused file
+-- a refused segment makes its file refused
 pub elf_refused : (bytes : List ℕ) (k : ℕ) (image : List Run) (fault : ImageFault) → file_fault bytes ≡ None → k < e_phnum bytes → is_loaded bytes k ≡ true →
     IsImageBefore bytes k image → IsSegmentFault bytes k image fault → IsFaultOfForm (Some form.Elf) bytes fault
 elf_refused bytes k image (Elf fault) readable inside loaded before is = (refl, inr (first_refused bytes k image (Elf fault) readable inside loaded before is))

@@ -1,4 +1,4 @@
--- The runs of two images, laid one after another: the union of the first runs of both grows by one.
+-- The runs of two images, added one after another: the union of the first runs of both grows by one.
 use Rattle.std.proofs.Common.{◌≡◌, ⊎_elim, ◌≤◌, ◌<◌, ◌+◌, ◌-◌, ◌^◌, ◌∙◌, ℕ, zero, suc, List, [], ◌∷◌, length, take, drop, Option, Some, None, Bool, true, false}
 use Rattle.std.proofs.Common.{cond, refl, sym, ap, subst, arith, add-one}
 use Rattle.std.proofs.Math.Seq.{take-length}
@@ -60,7 +60,7 @@ clash_swap x y at old new clash =
 
 -- The first runs of an image.
 
--- the earlier runs have no byte where a run has one
+-- the runs before a run have no byte where that run has one
 none_before : (x : List Run) (k a : ℕ) → AreMaximal 0 (2 ^ 32) x → k < length x → holds (run_at x k) a ≡ true → byte_at (take k x) a ≡ None
 none_before x k a m lt held =
     none_of (take k x) a (λ j below.
@@ -76,7 +76,7 @@ byte_at-more (r ∷ rs) (suc k) a lt =
     elim (holds r a) as (λ (b : Bool). cond b (Some (byte_of r a)) (byte_at (take (suc k) rs) a) ≡ or_else (cond b (Some (byte_of r a)) (byte_at (take k rs) a))
     (byte_at (run_at rs k ∷ []) a)) [ true ↦ refl | false ↦ byte_at-more rs k a (omega arith) ]
 
--- a byte of the first runs is the image's, and its run is one of them
+-- a byte of the first runs is a byte of the image
 taken_byte : (x : List Run) (n a byte : ℕ) → byte_at (take n x) a ≡ Some byte → byte_at x a ≡ Some byte
 taken_byte x n a byte is =
     ap (λ (rs : List Run). byte_at rs a) (sym (take-append-drop n x))
@@ -190,7 +190,7 @@ clash_of x y i j map at old new mx my lt is clash =
       first = clash_below x y i j map at old new mx my lt is clash old_is;
     }
 
--- a run that is refused, of the image that is new and of the one that is old
+-- a run that is refused, of either image
 pub new_fault : (x y : List Run) (i j : ℕ) (map : List Run) (fault : LayFault) → AreMaximal 0 (2 ^ 32) x → AreMaximal 0 (2 ^ 32) y → i < length x →
     IsUnion (take i x) (take j y) map → IsLayFault (run_at x i) map fault → IsUnionFault y x (fault_of fault)
 new_fault x y i j map (Conflict at old new) mx my lt is refused = clash_of x y i j map at old new mx my lt is refused.1

@@ -9,7 +9,7 @@ use Rattle.image_set.specs.declared.form.Form.TheVariants.{Raw, Elf, Hex, Srec}
 abbrev pub is_blank : ℕ → Bool
 is_blank byte = (byte == 32) || ((byte == 9) || ((byte == 13) || (byte == 10)))
 
--- the form of a text by its first byte that is no blank: a colon begins a record of Intel HEX, and a capital S one of
+-- the form of a text by its first byte that isn't blank: a colon begins a record of Intel HEX, and a capital S one of
 -- Motorola S-records
 abbrev pub text_form : Option ℕ → Option Form
 text_form None = None

@@ -13,12 +13,12 @@ is_in_range range a = nat_le range.0 a && nat_lt a (range.0 + range.1)
 abbrev pub is_inside : List (ℕ × ℕ) → ℕ → Bool
 is_inside ranges a = list_any (λ range. is_in_range range a) ranges
 
--- the image has a byte, and each of its addresses is in a range
+-- an image isn't empty, and each of its addresses is in a range
 pub record LiesInside (image : List Run) (ranges : List (ℕ × ℕ)) : Type 0 where
   pub some : image ≢ []
   pub inside : (a : ℕ) → IsSome (byte_at image a) → IsTrue (is_inside ranges a)
 
--- the least address of the image that is in no range
+-- the least address of an image that is in no range
 pub record IsLeastOutside (image : List Run) (ranges : List (ℕ × ℕ)) (at : ℕ) : Type 0 where
   pub held : IsSome (byte_at image at)
   pub outside : is_inside ranges at ≡ false

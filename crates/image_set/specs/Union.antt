@@ -23,7 +23,7 @@ pub record IsLeastClash (image other : List Run) (at old new : ℕ) : Type 0 whe
   pub unequal : old ≢ new
   pub first : AgreeBelow image other at
 
--- why two images have no union
+-- why two images have no union: they clash, or out of memory
 abbrev pub IsUnionFault : List Run → List Run → ImageFault → Type 0
 IsUnionFault image other NoForm = ⊥
 IsUnionFault image other (Hex fault) = ⊥

@@ -18,7 +18,7 @@ pub enum Form {
     Srec,
 }
 
-/// The form of a file: raw where an address is given, and else by its first bytes.
+/// The form of a file: raw if an address is given, or else by its first bytes.
 pub fn form_of(raw_at: Option<u32>, bytes: &[u8]) -> Option<Form>
     ensures { result ≡ form_of raw_at bytes.now }
 {

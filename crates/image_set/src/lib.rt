@@ -1,4 +1,4 @@
-//! Firmware images from files of any form, their union, and whether an image lies in given ranges of addresses.
+//! Firmware images from files of any form, their union, and whether an image is within given ranges of addresses.
 #![tactic(auto)]
 
 mod fault;

@@ -1,4 +1,4 @@
-//! Whether an image lies in ranges of addresses.
+//! Whether an image is within ranges of addresses.
 ghost use Rattle.byte_map.specs.Image.{addresses};
 ghost use Rattle.std.specs.Prelude.{◌≡◌, ◌+◌, ◌≤◌, ◌<◌, ◌∷◌, [], ℕ, IsTrue, false, OnOk, IfErr, MatchOption};
 ghost use Rattle.image_set.specs.Ranges.{is_inside, LiesInside, IsPlaceFault, IsOutside};
@@ -6,7 +6,7 @@ ghost use Rattle.image_set.specs.Ranges.{is_inside, LiesInside, IsPlaceFault, Is
 use crate::fault::ImageFault;
 use byte_map::ByteMap;
 
-/// Checks that an image has a byte, and none outside the device, which has `size` addresses from `base` on.
+/// Checks that an image isn't empty, and has no byte outside the device, which has `size` addresses from `base` on.
 pub fn check(map: &ByteMap, base: u32, size: u32) -> Result<(), ImageFault>
     ensures ok { OnOk result (LiesInside map.now ((base, size) ∷ [])) }
     ensures refused { IfErr result (IsPlaceFault map.now ((base, size) ∷ [])) }
@@ -14,7 +14,7 @@ pub fn check(map: &ByteMap, base: u32, size: u32) -> Result<(), ImageFault>
     check_ranges(map, &[(base, size)])
 }
 
-/// Checks that an image has a byte, and none outside all of the ranges. Each is its first address, and how many it has.
+/// Checks that an image isn't empty, and has no byte outside all ranges. A range is its first address and its number of addresses.
 pub fn check_ranges(map: &ByteMap, ranges: &[(u32, u32)]) -> Result<(), ImageFault>
     ensures ok { OnOk result (LiesInside map.now ranges.now) }
     ensures refused { IfErr result (IsPlaceFault map.now ranges.now) }
@@ -48,7 +48,7 @@ fn find_outside(at: u32, len: usize, ranges: &[(u32, u32)]) -> Option<u32>
     None
 }
 
-/// The end of a range that holds an address, or the address itself where none does.
+/// The end of a range that holds an address, or the address itself if there is none.
 fn skip_range(address: u64, ranges: &[(u32, u32)]) -> u64
     ensures later { address ≤ result }
     ensures inside { (a : ℕ) → address ≤ a → a < result → IsTrue (is_inside ranges.now a) }

@@ -1,4 +1,4 @@
-//! The image that a file stands for.
+//! Reading an image file.
 ghost use Rattle.std.specs.Prelude.{Some, IfOk, IfErr};
 ghost use Rattle.image_set.specs.declared.form.Form.TheVariants as form;
 ghost use Rattle.image_set.specs.Read.{IsImage, IsFault, IsImageOfForm, IsFaultOfForm};
@@ -11,8 +11,8 @@ use image_hex::{HexFault, HexKind, read_hex};
 use image_srec::{SrecFault, SrecKind, read_srec};
 use std::alloc::Global;
 
-/// Reads an image file. With an address its bytes are the image's from there on. Without one its first bytes tell its
-/// form: ELF, Intel HEX or S-records. The first check that fails is answered.
+/// Reads an image file. If an address is given, the file's bytes are those of the image from there on. Otherwise its first bytes
+/// show its form: ELF, Intel HEX or S-records. The first check that fails is answered.
 pub fn read_image(alloc: Global, bytes: &[u8], raw_at: Option<u32>) -> Result<ByteMap, ImageFault>
     ensures ok { IfOk result (IsImage raw_at bytes.now) }
     ensures err { IfErr result (IsFault raw_at bytes.now) }
@@ -26,7 +26,7 @@ pub fn read_image(alloc: Global, bytes: &[u8], raw_at: Option<u32>) -> Result<By
     }
 }
 
-/// The bytes of a file as one run.
+/// The image of raw bytes: one run.
 fn read_raw(alloc: Global, at: u32, bytes: &[u8]) -> Result<ByteMap, ImageFault>
     ensures ok { IfOk result (IsImageOfForm (Some (form.Raw at)) bytes.now) }
     ensures err { IfErr result (IsFaultOfForm (Some (form.Raw at)) bytes.now) }
@@ -36,7 +36,7 @@ fn read_raw(alloc: Global, at: u32, bytes: &[u8]) -> Result<ByteMap, ImageFault>
     Ok(map)
 }
 
-/// A text of Intel HEX.
+/// The image of a text of Intel HEX.
 fn read_hex_text(alloc: Global, text: &[u8]) -> Result<ByteMap, ImageFault>
     ensures ok { IfOk result (IsImageOfForm (Some form.Hex) text.now) }
     ensures err { IfErr result (IsFaultOfForm (Some form.Hex) text.now) }
@@ -53,7 +53,7 @@ fn read_hex_text(alloc: Global, text: &[u8]) -> Result<ByteMap, ImageFault>
     }
 }
 
-/// A text of S-records.
+/// The image of a text of S-records.
 fn read_srec_text(alloc: Global, text: &[u8]) -> Result<ByteMap, ImageFault>
     ensures ok { IfOk result (IsImageOfForm (Some form.Srec) text.now) }
     ensures err { IfErr result (IsFaultOfForm (Some form.Srec) text.now) }

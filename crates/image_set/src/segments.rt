@@ -38,7 +38,7 @@ pub fn read_elf(alloc: Global, bytes: &[u8]) -> Result<ByteMap, ImageFault>
     Ok(map)
 }
 
-/// Adds the bytes of one segment to an image. They are at most `room`, which is less by them afterwards.
+/// Adds the bytes of one segment to an image. There must be at most `room` of them, and `room` is reduced by their number.
 fn lay_segment(
     map: &mut ByteMap,
     elf: &Elf,

@@ -9,8 +9,8 @@ use crate::fault::ImageFault;
 use byte_map::{ByteMap, LayFault};
 use std::alloc::Global;
 
-/// Adds the bytes of another image to one. Where the two have unequal bytes it answers the least such address, with the
-/// byte of `into` as the old one. A refusal leaves `into` as it was. The first image is taken as it is.
+/// Adds the bytes of another image to one. If the two have unequal bytes, it answers the least such address, with the
+/// byte of `into` as the old one. If it refuses, `into` is unchanged. If `into` is empty, `other` is taken as it is.
 pub fn merge(alloc: Global, into: &mut ByteMap, other: ByteMap) -> Result<(), ImageFault>
     ensures ok { OnOk result (IsUnion into.old other into.new) }
     ensures refused { IfErr result (IsUnionFault into.old other) }
@@ -38,8 +38,8 @@ fn unite(alloc: Global, image: &ByteMap, other: &ByteMap) -> Result<ByteMap, Ima
     Ok(union)
 }
 
-/// Adds the next run of two images, where `index` runs are laid, `old` of them the first image's. It answers how many
-/// of the first image's are laid then.
+/// Adds the next run of two images. `index` runs were added before, `old` of them from the first image. Answers how many
+/// of the first image's runs are added now.
 fn lay_next(
     union: &mut ByteMap,
     image: &ByteMap,
@@ -92,7 +92,7 @@ fn lay_run(union: &mut ByteMap, image: &ByteMap, index: usize) -> Result<(), Lay
     union.lay(at, bytes)
 }
 
-/// The fault of a clash with the two images in the other order.
+/// The fault of a clash of two images, with the images in the other order.
 fn swapped(fault: LayFault) -> ImageFault
     ensures { result ≡ fault_of (swapped fault) }
 {

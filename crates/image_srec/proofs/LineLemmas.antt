@@ -1,4 +1,4 @@
--- What is at fault with a line of S-records, and what taking it answers.
+-- The fault of a line of S-records, if it has one, and what taking the line answers.
 use Rattle.std.proofs.Common.{◌≡◌, ◌++◌, ◌+◌, ◌-◌, ◌*◌, ◌∙◌, ◌≤◌, ℕ, Bool, true, false, cond, List, [], ◌∷◌, Option, Some, None, Ok, Err, length}
 use Rattle.std.proofs.Common.{get_or, take, refl, sym, ap, subst, arith}
 use Rattle.std.specs.Prelude.{◌==◌, ◌&&◌, ◌||◌, not, nat_lt, nat_le}

@@ -7,7 +7,7 @@ use Rattle.image_srec.specs.declared.fault.SrecKind.TheVariants as srec_kind
 use Rattle.image_srec.specs.Srec.{srec, IsSrecFault}
 use Rattle.record_lines.proofs.OneReading.{image_or_fault, image_or_no_end, fault_or_no_end, one_line_fault, one_no_end}
 
--- the two kinds of a fault of a text: of a line, or that it has no end
+-- the two kinds of a fault of a text: a fault of a line, or a missing end
 abbrev SrecFaultIs : List (List ℕ) → ℕ → SrecKind → Type 0
 SrecFaultIs lines line kind = IsFaultOfLine srec lines line kind ⊎ ((kind ≡ srec_kind.NoEnd) × HasNoEnd srec lines line)
 

@@ -5,7 +5,7 @@ use thiserror::Error;
 #[derive(Clone, Copy, Debug, PartialEq, Eq, Error)]
 #[error("line {line}: {kind}")]
 pub struct SrecFault {
-    /// The line; 0 where no memory was left, or the text is empty.
+    /// The line, or 0 if no memory was left or the text is empty.
     pub line: u32,
     /// What is wrong with that line.
     pub kind: SrecKind,

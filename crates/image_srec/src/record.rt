@@ -13,7 +13,7 @@ pub struct Seen {
     pub records: u64,
 }
 
-/// A record, as far as an image needs it.
+/// A record, with what an image needs of it.
 #[derive(Drop)]
 pub enum SrecRecord {
     /// A header.
@@ -26,7 +26,7 @@ pub enum SrecRecord {
     End,
 }
 
-/// What a line says: nothing where it is blank, a record, or a fault.
+/// What a line reads as: nothing if it is blank, a record, or a fault.
 pub fn parse(line: &[u8]) -> Result<Option<SrecRecord>, SrecKind>
     ensures { result ≡ read_line line.now }
 {
@@ -102,7 +102,7 @@ fn check(value: u8, bytes: &[u8]) -> Result<Option<SrecRecord>, SrecKind>
     Ok(Some(record(value, number(&bytes[1..data_at]), &bytes[data_at..last])))
 }
 
-/// The number that two, three or four bytes hold, the high one first.
+/// The number that two, three or four bytes hold, the high byte first.
 fn number(bytes: &[u8]) -> u32
     ensures { result ≡ number_of bytes.now }
 {

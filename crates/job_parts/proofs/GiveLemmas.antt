@@ -1,4 +1,4 @@
--- What the steps that read the job file and put texts come to together, and how the call ends.
+-- What steps that read the job file and put texts do together, and how the call ends.
 use Rattle.std.proofs.Common.{◌≡◌, ◌≤◌, ◌+◌, ◌-◌, ◌∙◌, ◌++◌, [], inl, inr, ℕ, List, Bool, true, false, IsTrue, length, take, drop}
 use Rattle.std.proofs.Common.{Ok, Err, refl, sym, ap, subst, arith, append-nil, append_assoc}
 use Rattle.std.proofs.Math.Seq.{take-add}
@@ -36,11 +36,11 @@ counted_rose later rose = record { later = later; on_fault = λ is. rose; on_oth
 pub counted_same : {before now : ℕ} → now ≡ before → IsCounted before now false
 counted_same same = record { later = omega (arith, same); on_fault = λ is. absurd (cc is); on_other = λ other. same }
 
--- nothing of a text
+-- nothing of a text was appended
 pub begins_nothing : (text taken : List ℕ) → AppendsPart text taken taken
 begins_nothing text taken = record { part = []; rest = text; piece_is = refl; appended = sym (append-nil taken) }
 
--- ---- a text that is put, and nothing is read
+-- ---- a text that is put without a read
 
 pub puts_gives : {told tells : Bool} {s : BenchState} {o n : SinkState} {text : List ℕ} {u : Unit {0}} → Puts tells o n text (Ok u)
     → Gives (bench_call told s s) (sink_call tells o n) text done
@@ -58,7 +58,7 @@ puts_gave {told} {tells} {s} puts = record {
   looks = record { store = counted_same refl; output = counted_rose puts.cause.later (puts.cause.on_fault refl); reads = only_reads_here told s };
 }
 
--- the file is read first
+-- a text is put after the file was read
 pub read_then : {told tells : Bool} {a b c : BenchState} {o n : SinkState} {text : List ℕ} {answer : Answer} → OnlyReads told a b
     → b.store_faults ≡ a.store_faults → Gives (bench_call told b c) (sink_call tells o n) text answer
     → Gives (bench_call told a c) (sink_call tells o n) text answer
@@ -92,7 +92,7 @@ pub record CopiedSoFar (told : Bool) (start now : BenchState) (tells : Bool) (fi
   pub faults : now.store_faults ≡ start.store_faults
   pub put : last.faults ≡ first.faults
 
--- what was put, and a window
+-- the bytes put so far, followed by a window
 joined : (file now : List ℕ) (from at size : ℕ) → now ≡ file
     → take at (drop from file) ++ take size (drop (from + at) now) ≡ take (at + size) (drop from file)
 joined file now from at size same =
@@ -102,7 +102,7 @@ joined file now from at size same =
 
 module _ {told tells : Bool} {start now new : BenchState} {first last out : SinkState} (from len at size : ℕ) (window : List ℕ)
     (so_far : CopiedSoFar told start now tells first last from len at window) where
-  -- one more
+  -- one more window was put
   pub copied_more : (window_now : List ℕ) → at + size ≤ len → length window_now ≡ 4096
       → Gives (bench_call told now new) (sink_call tells last out) (take size (drop (from + at) now.file)) done
       → CopiedSoFar told start new tells first out from len (at + size) window_now
@@ -119,7 +119,7 @@ module _ {told tells : Bool} {start now new : BenchState} {first last out : Sink
     put = gives.looks.output.on_other refl ∙ so_far.put;
   }
 
-  -- one that a fault broke off
+  -- a fault broke off a window
   pub copied_stops : (r : Refusal) → at + size ≤ len
       → Gives (bench_call told now new) (sink_call tells last out) (take size (drop (from + at) now.file)) (refused r)
       → Gives (bench_call told start new) (sink_call tells first out) (take len (drop from start.file)) (refused r)
@@ -142,7 +142,7 @@ module _ {told tells : Bool} {start now new : BenchState} {first last out : Sink
     };
   }
 
--- all
+-- all windows were put
 pub copied_all : {told tells : Bool} {start now : BenchState} {first last : SinkState} (from len at : ℕ) (window : List ℕ) → len ≤ at
     → CopiedSoFar told start now tells first last from len at window
     → Gives (bench_call told start now) (sink_call tells first last) (take len (drop from start.file)) done
@@ -166,7 +166,7 @@ part_given text is gives = record {
   looks = gives.looks;
 }
 
--- the store failed before anything of it was put
+-- the store failed before anything of the part was put
 pub store_failed_part : {p : Part} {job : code.Job} {told tells : Bool} {a b : BenchState} {o : SinkState}
     → ((stands : StandsFor job a.file) → IsOfPart p job a.file stands (λ text. Unit {0})) → OnlyReads told a b → a.store_faults ≤ b.store_faults
     → Rose a.store_faults b.store_faults → PutsPart p job (bench_call told a b) (sink_call tells o o) (refused store_fault)
@@ -179,7 +179,7 @@ store_failed_part {p} {job} {told} {tells} {a} {b} {o} some reads later rose = r
 
 -- ---- the call
 
--- the file was read before
+-- the call only reads, also where the file was read before
 looks_both : {told tells : Bool} {s b n : BenchState} {o m : SinkState} → OnlyReads told s b → b.store_faults ≡ s.store_faults → (answer : Answer)
     → OnlyLooks (bench_call told b n) (sink_call tells o m) answer → OnlyLooks (bench_call told s n) (sink_call tells o m) answer
 looks_both {told} {tells} {s} {b} {n} reads same answer looks = record {
@@ -238,7 +238,7 @@ module _ {p : Part} {told tells : Bool} {s : BenchState} where
           (subst (λ (a : Answer). OnlyLooks (bench_call told b n) (sink_call tells o m) a) lacks.answer_is lacks.looks);
     })
 
-  -- a job file that isn't opened
+  -- the job in the file isn't opened
   pub ends_refused : {b : BenchState} {o : SinkState} (fault : OpenFault) → OnlyReads told s b
       → IsCounted s.store_faults b.store_faults (is_store_fault (open_fault fault)) → (IsTrue told → IsOpenFault s.file s.cell_count fault)
       → GiveEnds p (bench_call told s b) (sink_call tells o o) (refused (of_open fault))

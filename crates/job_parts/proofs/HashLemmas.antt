@@ -20,7 +20,7 @@ pub record HashedSoFar (told : Bool) (start now : BenchState) (from len at : ℕ
   pub reads : OnlyReads told start now
   pub faults : now.store_faults ≡ start.store_faults
 
--- a window more
+-- the hash after one more window
 pub window_hashed : (file now : List ℕ) (old new : Sha256) (from at size : ℕ) → now ≡ file → Holds256 old (take at (drop from file))
     → ((m : List ℕ) → Holds256 old m → Holds256 new (m ++ take size (drop (from + at) now))) → Holds256 new (take (at + size) (drop from file))
 window_hashed file now old new from at size same holds more =
@@ -31,7 +31,7 @@ window_hashed file now old new from at size same holds more =
     ∙ sym (take-add at size rest) in
     subst (λ (l : List ℕ). Holds256 new l) is (more (take at rest) holds)
 
--- a run more
+-- the hash after one more run
 pub run_hashed : (image : List Run) (i : ℕ) (r : Run) (old new : Sha256) → i < length image → slice_get image i ≡ Some r
     → Holds256 old (bytes_of (take i image)) → ((m : List ℕ) → Holds256 old m → Holds256 new (m ++ r.bytes))
     → Holds256 new (bytes_of (take (i + 1) image))

@@ -1,4 +1,4 @@
--- Where the texts of a job stand in its file, and that the fields of its head say how long they are.
+-- Where the texts of a job are in its file, and that the fields of its head give their lengths.
 use Rattle.std.proofs.Common.{◌≡◌, ◌≤◌, ◌<◌, ◌+◌, ◌^◌, ◌∙◌, ◌∷◌, ◌++◌, [], ℕ, List, length}
 use Rattle.std.proofs.Common.{take, drop, refl, sym, ap, subst, arith, append_assoc, slice_get, get_or, zero, suc}
 use Rattle.std.proofs.Common.{Some, None, ⊎_elim}
@@ -32,7 +32,7 @@ use Rattle.job_parts.specs.Parts.{index_of}
 
 -- ---- the fields
 
--- the format by the mark
+-- the format that a file's mark gives
 pub mark_in : (format : Format) (j : Job) → format_in (take 7 (drop 1 (open_gate ∷ body_in format j))) ≡ format
 mark_in First j = refl
 mark_in Second j = refl
@@ -51,7 +51,7 @@ first_board j small = from_le_bytes-to_le_bytes_4 (length j.board) small
 pub first_flm : (j : Job) → flm_len j.flms 0 < 2 ^ 32 → number_in 12 (open_gate ∷ body_in First j) ≡ flm_len j.flms 0
 first_flm j small = from_le_bytes-to_le_bytes_4 (flm_len j.flms 0) small
 
--- what is after the hash
+-- the bytes after the hash
 after_hash : (n : ℕ) (j : Job) → drop (32 + n) (sha256 (hashed_of j) ++ hashed_of j) ≡ drop n (hashed_of j)
 after_hash n j = sym (drop-drop n 32 (sha256 (hashed_of j) ++ hashed_of j))
     ∙ ap (drop n) (drop_at (sha256 (hashed_of j)) (hashed_of j) 32 (length-sha256 (hashed_of j)))
@@ -84,7 +84,7 @@ stands file text rest at inside is = record {
   is = ap (take (length text)) is ∙ take_at text rest (length text) refl;
 }
 
--- what is after it
+-- the rest of a file after a text
 next : (file text rest : List ℕ) (at : ℕ) → drop at file ≡ text ++ rest → drop (at + length text) file ≡ rest
 next file text rest at is = sym (drop-drop (length text) at file) ∙ ap (drop (length text)) is ∙ drop_at text rest (length text) refl
 
@@ -92,7 +92,7 @@ tail_in : (format : Format) (j : Job) → drop (places_of format).front (open_ga
 tail_in First j = refl
 tail_in Second j = after_hash 24 j
 
--- in the file of a job
+-- the texts in the file of a job
 module _ (j : Job) (file : List ℕ) (whole : IsWhole (body_of j) file) where
   abbrev front : ℕ
   front = (places_of j.format).front
@@ -138,7 +138,7 @@ module _ (j : Job) (file : List ℕ) (whole : IsWhole (body_of j) file) where
   pub second_stands : (f : List ℕ) → slice_get j.flms 1 ≡ Some f → StandsAt file (front + length j.board + flm_len j.flms 0) f
   second_stands f is = second_by j.flms f is flms_are
 
--- a text that stands at a place, read from a file that is the same, by a place and a length that are the same
+-- a text at a place, read from an unchanged file by an equal place and length
 pub text_there : (file mid text : List ℕ) (at place len : ℕ) → mid ≡ file → at ≡ place → len ≡ length text → StandsAt file place text
     → take len (drop at mid) ≡ text
 text_there file mid text at place len same here long stands = rw (same, here, long) stands.is
@@ -168,7 +168,7 @@ module _ (j : Job) (b : board.Shown) (algorithms : List Algorithm) (is : IsJob j
       not_less : (i n : ℕ) → (i < n → ⊥) → n ≤ i
       not_less i n other = ⊎_elim (λ less. absurd (other less)) (λ le. le) (cases_lt i n)
 
--- where it stands
+-- where the FLM file of a region is
 pub record FlmThere (j : Job) (p : Place) (lengths : Lengths) (file : List ℕ) : Type 0 where
   pub stands : StandsAt file (flm_at lengths p) (get_or j.flms (index_of p) [])
   pub long : flm_size lengths p ≡ length (get_or j.flms (index_of p) [])

@@ -1,4 +1,4 @@
--- The parts of a job: where they stand in its file, and that what is put is they.
+-- The parts of a job: where they are in its file, and that what is put is these parts.
 pub mod LengthLemmas
 pub mod GiveLemmas
 pub mod HashLemmas

@@ -1,4 +1,4 @@
--- The pieces of a listing are the text that it is, and the last address of an image.
+-- The pieces of a listing make its text, and which address of an image is the last.
 use Rattle.std.proofs.Common.{◌≡◌, ◌≤◌, ◌+◌, ◌-◌, ◌∙◌, ◌++◌, ◌∷◌, [], ℕ, zero, suc, List, length, map, slice_get, Some, refl, sym, ap, subst}
 use Rattle.std.specs.Prelude.{codes}
 use Rattle.std.specs.List.{concat, flat_map}
@@ -20,12 +20,12 @@ use Rattle.job_parts.specs.Board.{board_text}
 use Rattle.job_parts.specs.Listing.{format_text, span_line, hash_line, devices_of, listing_of, listing_text, IsSurvey}
 use Rattle.job_parts.specs.declared.listing.Survey.{Survey}
 
--- the devices as the code has the algorithms
+-- the devices of the algorithms, as the code has them
 shown_devices : (algorithms : List Algorithm) → map (λ (a : Algorithm). a.device) algorithms ≡ devices_of (algorithms_shown algorithms)
 shown_devices [] = refl
 shown_devices (a ∷ rest) = ap (λ (l : List Device). a.device ∷ l) (shown_devices rest)
 
--- the seven pieces
+-- the seven pieces of a listing make its text
 pub listing_is : (format : Format) (b : board.Shown) (those algorithms : List Algorithm) (image : List Run) (of_image of_snapshot : List ℕ)
     → those ≡ algorithms
     → job_text (map (λ (a : Algorithm). a.device) algorithms) image ++ format_text format ++ board_text b
@@ -36,12 +36,12 @@ unfolding listing_of
 listing_is format b those algorithms image of_image of_snapshot here =
     rw (shown_devices algorithms, here, flat_map-map inspection_text shown algorithms) refl
 
--- what was read is the job's
+-- the listing by what was read of a job is the listing of the job
 pub survey_is : (j : Job) (b : board.Shown) (algorithms : List flm.Shown) (image : List Run) (survey : Survey) → IsSurvey j survey → j.image ≡ image
     → listing_of survey.format image survey.image survey.snapshot b algorithms ≡ listing_text j b algorithms
 survey_is j b algorithms image survey is same = rw (is.format, sym same, is.image, is.snapshot) refl
 
--- a run of an image has a byte, and ends by the end
+-- a run of an image isn't empty, and ends at `end` or below
 pub run_inside : (low end : ℕ) (rs : List Run) (i : ℕ) (r : Run) → AreMaximal low end rs → slice_get rs i ≡ Some r
     → (1 ≤ length r.bytes) × (end_of r ≤ end)
 run_inside low end [] i r m is = absurd (cc)

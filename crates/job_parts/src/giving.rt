@@ -21,8 +21,8 @@ use outside_io::{OutputFault, Sink};
 use report_text::Refusal;
 use std::alloc::Global;
 
-/// Puts a part of the job for which the job file stands. The file is only read, and the cells aren't read. It takes memory for the contents
-/// of the texts and for the image, and none for the snapshot.
+/// Puts a part of the job for which the job file stands. The file is only read, and the cells aren't read. It takes memory for the
+/// contents of the texts and for the image, and none for the snapshot.
 pub fn give<'a, B: Bench, O: Sink>(
     alloc: Global,
     part: Part,

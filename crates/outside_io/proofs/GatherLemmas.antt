@@ -1,4 +1,4 @@
--- Texts that are gathered one after the other. For `Gathered`, whose text goes out at once.
+-- Texts that are gathered one after another, for `Gathered`, which puts them in long pieces.
 use Rattle.std.proofs.Common.{◌≡◌, ◌<◌, ◌+◌, ◌++◌, ◌∙◌, sym, ap, subst, refl, arith, Bool, ℕ, List, [], length, take, drop, get_or, append_assoc, append-nil}
 use Rattle.std.proofs.Common.{Result, Ok, Err, OnOk, IsErr}
 use Rattle.std.specs.List.{flat_map}
@@ -11,7 +11,7 @@ use Rattle.outside_io.specs.Gathers.{AppendsUpTo, Gathers}
 use Rattle.outside_io.specs.Puts.{Puts}
 use Rattle.outside_io.proofs.PutTexts.{next_text, rest_text}
 
--- A beginning of what waited and a first text, and then a beginning of what was left of them and a second text.
+-- A beginning of what waited and a first text, followed by a beginning of what is left and a second text.
 module _ (before first second mid : List ℕ) (a b c : List ℕ) where
   goes_on : AppendsUpTo mid (before ++ first) a b → AppendsPart (mid ++ second) b c → AppendsPart (before ++ (first ++ second)) a c
   goes_on one two = record {
@@ -39,7 +39,7 @@ gathers_here tells a w x text u is = record {
   cause = record { later = omega arith; on_fault = λ failed. absurd (cc failed); on_ok = λ fine. refl };
 }
 
--- no text
+-- gathering an empty text
 pub gathers_nothing : (tells : Bool) (a : SinkState) (w : List ℕ) (u : Unit {0}) → Gathers tells a a w w [] (Ok u)
 gathers_nothing tells a w u = gathers_here tells a w w [] u (sym (append-nil w))
 
@@ -128,7 +128,7 @@ gathers_stops {tells} {a} {b} {w} {x} {first} rest gathers = record {
   cause = gathers.cause;
 }
 
--- a fault as a call hands it on
+-- a call that answers the fault of a call in it
 pub gathers_failed : {tells : Bool} {a b : SinkState} {w x text : List ℕ} {e : OutputFault} (r : Result (Unit {0}) OutputFault)
     → IsErr r → Gathers tells a b w x text (Err e) → Gathers tells a b w x text r
 gathers_failed (Ok u) failed gathers = absurd (cc failed)
@@ -138,15 +138,15 @@ gathers_failed (Err f) failed gathers = record {
   cause = record { later = gathers.cause.later; on_fault = λ failed. gathers.cause.on_fault refl; on_ok = λ fine. absurd (cc fine) };
 }
 
--- The texts of a list, one after the other.
+-- The texts of a list, one after another.
 module _ {A : Type 0} (text : A → List ℕ) (items : List A) (i : ℕ) (d : A) (less : i < length items) where
-  -- one more
+  -- one more text of the list was gathered
   pub gathers_more : {tells : Bool} {a b c : SinkState} {v w x : List ℕ} {j k : Unit {0}}
       → Gathers tells a b v w (flat_map text (take i items)) (Ok j) → Gathers tells b c w x (text (get_or items i d)) (Ok k)
       → Gathers tells a c v x (flat_map text (take (i + 1) items)) (Ok k)
   gathers_more one two = gathers_as (next_text text items i d less) (gathers_then _ one two)
 
-  -- one that a fault broke off
+  -- a fault broke off a text of the list
   pub gathers_breaks : {tells : Bool} {a b c : SinkState} {v w x : List ℕ} {j : Unit {0}} {e : OutputFault}
       → Gathers tells a b v w (flat_map text (take i items)) (Ok j) → Gathers tells b c w x (text (get_or items i d)) (Err e)
       → Gathers tells a c v x (flat_map text items) (Err e)

@@ -1,4 +1,4 @@
--- Texts that are put one after the other. Every command joins what it has put by them.
+-- Texts that are put one after another. Every command joins what it has put by these lemmas.
 use Rattle.std.proofs.Common.{◌≡◌, ◌<◌, ◌+◌, ◌++◌, ◌∙◌, sym, ap, subst, refl, arith, Bool, ℕ, List, [], take, drop, length, get_or, append_assoc, append-nil}
 use Rattle.std.proofs.Common.{add-one, Result, Ok, Err, IsErr}
 use Rattle.std.proofs.Math.Seq.{take-suc}
@@ -55,7 +55,7 @@ puts_stops {tells} {a} {b} {first} rest puts = record {
   cause = puts.cause;
 }
 
--- a fault as a call hands it on
+-- a call that answers the fault of a call in it
 pub puts_failed : {tells : Bool} {a b : SinkState} {text : List ℕ} {e : OutputFault} (r : Result (Unit {0}) OutputFault)
     → IsErr r → Puts tells a b text (Err e) → Puts tells a b text r
 puts_failed (Ok u) failed puts = absurd (cc failed)
@@ -65,7 +65,7 @@ puts_failed (Err f) failed puts = record {
   cause = record { later = puts.cause.later; on_fault = λ failed. puts.cause.on_fault refl; on_ok = λ fine. absurd (cc fine) };
 }
 
--- The texts of a list, one after the other.
+-- The texts of a list, one after another.
 module _ {A : Type 0} (text : A → List ℕ) (items : List A) (i : ℕ) (d : A) (less : i < length items) where
   pub next_text : flat_map text (take i items) ++ text (get_or items i d) ≡ flat_map text (take (i + 1) items)
   next_text = sym (rw (add-one, take-suc items i d less, flat_map-append)
@@ -74,13 +74,13 @@ module _ {A : Type 0} (text : A → List ℕ) (items : List A) (i : ℕ) (d : A)
   pub rest_text : flat_map text (take (i + 1) items) ++ flat_map text (drop (i + 1) items) ≡ flat_map text items
   rest_text = sym (flat_map-append text (take (i + 1) items) (drop (i + 1) items)) ∙ ap (flat_map text) (take-append-drop (i + 1) items)
 
-  -- one more
+  -- one more text of the list was put
   pub puts_more : {tells : Bool} {a b c : SinkState} {u v : Unit {0}}
       → Puts tells a b (flat_map text (take i items)) (Ok u) → Puts tells b c (text (get_or items i d)) (Ok v)
       → Puts tells a c (flat_map text (take (i + 1) items)) (Ok v)
   puts_more one two = puts_as next_text (puts_then _ one two)
 
-  -- one that a fault broke off
+  -- a fault broke off a text of the list
   pub puts_breaks : {tells : Bool} {a b c : SinkState} {u : Unit {0}} {e : OutputFault}
       → Puts tells a b (flat_map text (take i items)) (Ok u) → Puts tells b c (text (get_or items i d)) (Err e)
       → Puts tells a c (flat_map text items) (Err e)

@@ -1,2 +1,2 @@
--- A comparison that goes on window by window.
+-- A comparison of cells with bytes, window by window.
 pub mod ReadbackLemmas

@@ -1,4 +1,4 @@
--- A comparison that goes on window by window. `first_difference` goes on by them.
+-- A comparison of cells with bytes, window by window, for `first_difference`.
 use Rattle.std.proofs.Common.{◌≡◌, ◌<◌, ◌≤◌, ◌+◌, ◌++◌, ◌∙◌, sym, ap, refl, arith, Bool, IsTrue, ℕ, List, length, take, drop, get_or, length-drop, Option, Some}
 use Rattle.std.proofs.Common.{None, is_some, true, false}
 use Rattle.std.proofs.Math.Seq.{take-add}
@@ -26,7 +26,7 @@ only_reads_cells_then one two = record {
   file = file_stays_then one.file two.file;
 }
 
--- the cells from a place on are the first bytes, and the bench was only read so far
+-- the cells from a place on agree with the first `done` bytes, and the bench was only read so far
 pub record SoFar (tells : Bool) (start now : BenchState) (from : ℕ) (bytes : List ℕ) (done : ℕ) : Type 0 where
   pub within : done ≤ length bytes
   pub same : IsTrue tells → take done (drop from start.cells) ≡ take done bytes
@@ -51,12 +51,12 @@ module _ (tells : Bool) (start mid : BenchState) (from : ℕ) (bytes : List ℕ)
   unfolding part
   length-part = length-take-le k (drop done bytes) (omega (arith, length-drop done bytes, fits, whole)) ∙ whole
 
-  -- the cells of the window are those of the start
+  -- the cells of the window are those at the start
   same_cells : IsTrue tells → (n : ℕ) → take n (drop (from + done) mid.cells) ≡ take n (drop done (drop from start.cells))
   same_cells told n = ap (λ (l : List ℕ). take n (drop (from + done) l)) (so_far.bench.cells told)
       ∙ ap (λ (l : List ℕ). take n l) (sym (drop-drop done from start.cells))
 
-  -- what agrees up to here and for n cells more
+  -- cells that agree so far and for n more agree for all of these
   goes_on : IsTrue tells → (n : ℕ) → take n (drop (from + done) mid.cells) ≡ take n (drop done bytes)
       → take (done + n) (drop from start.cells) ≡ take (done + n) bytes
   goes_on told n agrees =
@@ -65,7 +65,7 @@ module _ (tells : Bool) (start mid : BenchState) (from : ℕ) (bytes : List ℕ)
       ∙ ap (λ (l : List ℕ). take done bytes ++ l) (sym (same_cells told n) ∙ agrees)
       ∙ sym (take-add done n bytes)
 
-  -- a window that agrees
+  -- the next window agrees
   pub SoFar-then : (new : BenchState) (found : Option Difference) → Finds tells mid.cells (from + done) (take k (drop done bytes)) found
       → is_some found ≡ false → OnlyReadsCells tells mid new → new.device_faults ≡ mid.device_faults
       → SoFar tells start new from bytes (done + size)
@@ -79,7 +79,7 @@ module _ (tells : Bool) (start mid : BenchState) (from : ℕ) (bytes : List ℕ)
   }
   SoFar-then new (Some d) differs none reads faults = absurd (cc)
 
-  -- a window that differs
+  -- the next window differs
   pub SoFar-differs : (found : Option Difference) → Finds tells mid.cells (from + done) (take k (drop done bytes)) found
       → is_some found ≡ true → Finds tells start.cells from bytes found
   unfolding part

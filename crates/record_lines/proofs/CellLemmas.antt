@@ -1,4 +1,4 @@
--- Cells at rising addresses against a run of a map. A data record of either format is laid as a run, and its definition lays cell by cell.
+-- Cells at rising addresses compared with a run of a map. Code adds a data record as a run, and its definition adds cell by cell.
 use Rattle.std.proofs.Common.{◌≡◌, ◌≢◌, ⊎_elim, ◌≤◌, ◌<◌, ◌+◌, ◌-◌, ℕ, zero, suc, List, [], ◌∷◌, ◌++◌, length, get_or, Option, Some, None, refl, sym, ap}
 use Rattle.std.proofs.Common.{◌∙◌, cond, Bool, true, false, subst, arith}
 use Rattle.std.specs.List.{All}
@@ -46,7 +46,7 @@ held-within at (byte ∷ bytes) (suc k) lt =
     ∙ ap (held (cells_from (at + 1) bytes)) (let is : at + suc k ≡ at + 1 + k = omega arith in is)
     ∙ held-within (at + 1) bytes k (omega arith)
 
--- what holds of each of them
+-- what holds for each byte at its address holds for all cells
 all_from : (P : Cell → Type 0) (at : ℕ) (bytes : List ℕ) → ((k : ℕ) → k < length bytes → P (record { at = at + k; byte = get_or bytes k 0 })) →
     All P (cells_from at bytes)
 all_from P at [] each = All-nil P
@@ -79,7 +79,7 @@ or_else-cond : (b : Bool) (byte : ℕ) (o : Option ℕ) → cond b (Some byte) o
 or_else-cond true byte o = refl
 or_else-cond false byte o = refl
 
--- a map to which a piece was added has the piece's cells beside its own
+-- a map to which a piece was added has the piece's cells besides its own
 pub held-laid : (at : ℕ) (bytes : List ℕ) (old new : List Run) (before : List Cell) → Lays (record { at = at; bytes = bytes }) old new →
     ((a : ℕ) → byte_at old a ≡ held before a) → (a : ℕ) → byte_at new a ≡ held (cells_from at bytes ++ before) a
 held-laid at bytes old new before lays same a =
@@ -111,7 +111,7 @@ clash-unequal o cell later old is unequal =
     ap (λ (p : Option ℕ). clash_with p cell later) is ∙ ap (λ (b : Bool). cond b later (Some (record { at = cell.at; old = old; new = cell.byte })))
     (other_number old cell.byte unequal)
 
--- the first of them that doesn't is their clash
+-- the clash of some cells is the first of them that doesn't agree
 pub clash_at : (at : ℕ) (bytes : List ℕ) (before : List Cell) (n old : ℕ) → n < length bytes → held before (at + n) ≡ Some old → old ≢ get_or bytes n 0 →
     ((k other : ℕ) → k < n → held before (at + k) ≡ Some other → other ≡ get_or bytes k 0)
     → first_clash before (cells_from at bytes) ≡ Some (record { at = at + n; old = old; new = get_or bytes n 0 })
@@ -187,7 +187,7 @@ first_clash-some_at before (Some old) x xs ys c is later =
     elim (old == x.byte) as (λ (b : Bool). cond b (first_clash before xs) (Some (record { at = x.at; old = old; new = x.byte })) ≡ Some c →
     cond b (first_clash before (xs ++ ys)) (Some (record { at = x.at; old = old; new = x.byte })) ≡ Some c) [ true ↦ later | false ↦ λ there. there ] is
 
--- a clash of the first cells is the clash of all
+-- a clash of the first cells is a clash of all
 pub first_clash-some : (before xs ys : List Cell) (c : Clash) → first_clash before xs ≡ Some c → first_clash before (xs ++ ys) ≡ Some c
 first_clash-some before [] ys c is = let nothing : None ≡ Some c = is in absurd (cc)
 first_clash-some before (x ∷ xs) ys c is = first_clash-some_at before (held before x.at) x xs ys c is (λ later. first_clash-some before xs ys c later)

@@ -31,7 +31,7 @@ line_has cells runs image own is all =
 line_only : (cells : List Cell) (runs : List Run) (a : ℕ) → IsImageOf (cells ++ []) runs → held cells a ≡ None → All (λ run. holds run a ≡ false) runs
 line_only cells runs a is none = none_holds runs a (is.same a ∙ ap (λ (cs : List Cell). held cs a) (append-nil cells) ∙ none)
 
--- one line more
+-- the runs after one more line
 pub gathered_more : {C R F : Type 0} (f : Format C R F) (lines : List (List ℕ)) (n : ℕ) (runs own : List Run) → AreRunsBefore f lines n runs →
     n < length lines → own_fault_at f lines n ≡ None → ends_at f lines n ≡ false
     → AreConsistent (cells_at f lines n) → IsImageOf (cells_at f lines n ++ []) own → AreRunsBefore f lines (suc n) (runs ++ own)
@@ -78,7 +78,7 @@ or_clash_none : {C R F : Type 0} (f : Format C R F) (o : Option F) (clash other 
 or_clash_none f (Some fault) clash other is none = is
 or_clash_none f None clash other is none = ap (or_clash f None) none
 
--- a line that is right by itself, and clashes nowhere with those before it
+-- a line that is right by itself and clashes with none before it is right
 right_behind : {C R F : Type 0} (f : Format C R F) (c : C) (before : List Cell) (reading : Result (Option R) F) → line_fault f c [] reading ≡ None →
     first_clash before (line_cells f c reading) ≡ None → line_fault f c before reading ≡ None
 right_behind f c before (Ok None) right none = refl

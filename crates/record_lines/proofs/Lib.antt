@@ -1,4 +1,4 @@
--- Digits and lines of records, and that what is gathered of a text is its one image or its one fault.
+-- Digits and lines of records, and that what is gathered from a text is its one image or its one fault.
 pub mod Pairs
 pub mod Values
 pub mod CellLemmas

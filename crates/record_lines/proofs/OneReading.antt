@@ -10,11 +10,11 @@ use Rattle.record_lines.specs.declared.fault.TextFault.{TextFault}
 use Rattle.record_lines.specs.declared.fault.TextFault.TheVariants.{Line, NoEnd, OutOfMemory}
 
 module _ {C R F : Type 0} (f : Format C R F) (lines : List (List ℕ)) where
-  -- an end isn't before another
+  -- no line before a place ends the text, where all lines before it are right
   no_earlier_end : (p q : ℕ) → AreRight f lines q → ends_at f lines p ≡ true → p < q → ⊥
   no_earlier_end p q right ends less = let goes_on = right.goes_on p less in cc
 
-  -- nor is a fault before a line up to which all are right
+  -- no line is at fault before a place up to which all lines are right
   no_earlier_fault : (p q : ℕ) (fault : F) → AreRight f lines q → fault_at f lines p ≡ Some fault → p < q → ⊥
   no_earlier_fault p q fault right is less = let none = right.right p less in cc
 

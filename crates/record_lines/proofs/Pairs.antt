@@ -1,4 +1,4 @@
--- Pairs of digits by their places. For `decode`.
+-- Pairs of digits by their places, for `decode`.
 use Rattle.std.proofs.Common.{◌≡◌, ◌<◌, ◌+◌, ◌-◌, ◌*◌, ◌∙◌, ℕ, zero, suc, List, [], ◌∷◌, length, get_or, refl, sym, ap, arith}
 use Rattle.std.specs.Prelude.{unwrap_or}
 use Rattle.octets.specs.Digit.{pair_value}

@@ -48,7 +48,7 @@ module _ {C R F : Type 0} (f : Format C R F) (text : List ℕ) (from : ℕ) (c :
   pub next_inside : n < length (lines_of text)
   next_inside = omega (arith, ap length whole, length-drop n (lines_of text))
 
-  -- what is said of the line at a place, from what is said of its content
+  -- what is said of the line at a place follows from its content
   pub next_fault : (before : List Cell) → line_fault f (context_before f (lines_of text) n) before (f.read (line_at (lines_of text) n)) ≡ line_fault f c before
       (f.read here)
   next_fault before =
@@ -73,7 +73,7 @@ module _ {C R F : Type 0} (f : Format C R F) (text : List ℕ) (from : ℕ) (c :
             ∙ ap (λ (l : List ℕ). f.behind (f.read l) (context_before f (lines_of text) n)) (sym next_is);
       }
 
-  -- one right line more
+  -- the next line is right
   pub read_more : (line : ℕ) (image : List Run) (c' : C) (image' : List Run) → HasRead f text from line c image n
       → line_fault f c (cells_before f (lines_of text) n) (f.read here) ≡ None → line_ends f (f.read here) ≡ false → c' ≡ f.behind (f.read here) c
       → IsImageOf (line_cells f c (f.read here) ++ cells_before f (lines_of text) n) image' → HasRead f text next (min (line + 1) 4294967295) c' image' (suc n)
@@ -90,7 +90,7 @@ module _ {C R F : Type 0} (f : Format C R F) (text : List ℕ) (from : ℕ) (c :
         line_is = omega (arith, read.line_is);
       }
 
-  -- the end record
+  -- the next line is the end record
   pub read_end : (line : ℕ) (image image' : List Run) → HasRead f text from line c image n
       → line_fault f c (cells_before f (lines_of text) n) (f.read here) ≡ None → line_ends f (f.read here) ≡ true →
       IsImageOf (cells_before f (lines_of text) n) image' → IsImageOfText f (lines_of text) image'
@@ -104,7 +104,7 @@ module _ {C R F : Type 0} (f : Format C R F) (text : List ℕ) (from : ℕ) (c :
         image_is = image_is;
       }
 
-  -- a line at fault
+  -- the next line is at fault
   pub read_fault : (line : ℕ) (image : List Run) (fault : F) → HasRead f text from line c image n
       → line_fault f c (cells_before f (lines_of text) n) (f.read here) ≡ Some fault → IsFaultOfLine f (lines_of text) (min (line + 1) 4294967295) fault
   read_fault line image fault read is =
@@ -120,7 +120,7 @@ no_lines : lines_of [] ≡ []
 unfolding whole_lines
 no_lines = refl
 
--- no line is left
+-- no line is left, and none ended the text
 pub read_all : {C R F : Type 0} (f : Format C R F) (text : List ℕ) (from line : ℕ) (c : C) (image : List Run) (n : ℕ) → HasRead f text from line c image n →
     length text ≤ from → HasNoEnd f (lines_of text) line
 read_all f text from line c image n h past =

@@ -1,4 +1,4 @@
--- Runs whose bytes are kept in one list. For `Gathered::push` and `push_runs`.
+-- Runs with their bytes kept in one list, for `Gathered::push` and `push_runs`.
 use Rattle.std.proofs.Common.{◌≡◌, ◌+◌, ◌<◌, ◌∙◌, ℕ, List, [], ◌∷◌, ◌++◌, length, take, drop, Some, refl, sym, ap, arith, append_assoc, length-drop}
 use Rattle.std.specs.Prelude.{map, slice_get}
 use Rattle.std.specs.List.{All}
@@ -23,7 +23,7 @@ runs-append bytes more (piece ∷ pieces) inside =
     ap (λ (run : Run). run ∷ map (run_of (bytes ++ more)) pieces) (run_of-append bytes more piece (All-head (IsInside bytes) piece pieces inside))
     ∙ ap (λ (runs : List Run). run_of bytes piece ∷ runs) (runs-append bytes more pieces (All-tail (IsInside bytes) piece pieces inside))
 
--- a piece whose bytes are the last ones
+-- a piece that has the last bytes of the store
 run_of-last : (bytes more : List ℕ) (piece : Piece) → piece.start ≡ length bytes → piece.len ≡ length more →
     run_of (bytes ++ more) piece ≡ record { at = piece.at; bytes = more }
 run_of-last bytes more piece start len =
@@ -32,7 +32,7 @@ run_of-last bytes more piece start len =
     ∙ ap (take piece.len) (drop-append_seam bytes more)
     ∙ take_all piece.len more (omega (arith, len)))
 
--- one piece more
+-- the runs of a store with one more piece
 pub runs-push : (bytes more : List ℕ) (pieces : List Piece) (piece : Piece) → All (IsInside bytes) pieces → piece.start ≡ length bytes → piece.len ≡ length more
     → map (run_of (bytes ++ more)) (pieces ++ piece ∷ []) ≡ map (run_of bytes) pieces ++ record { at = piece.at; bytes = more } ∷ []
 runs-push bytes more pieces piece inside start len =

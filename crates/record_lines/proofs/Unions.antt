@@ -1,4 +1,4 @@
--- The union of runs, in whatever order they are laid. So lines may be gathered first, and be laid by rising address.
+-- The union of runs, in whatever order they are added. So lines may be gathered first, and added by rising address.
 use Rattle.std.proofs.Common.{◌≡◌, ◌+◌, ◌<◌, ◌∙◌, ℕ, List, [], ◌∷◌, ◌++◌, length, get_or, take, Some, None, Result, Ok, Err, Bool, true, false, cond, refl, sym}
 use Rattle.std.proofs.Common.{ap, subst, arith}
 use Rattle.std.specs.Result.{OnOk, result_ok}
@@ -12,12 +12,12 @@ use Rattle.byte_map.specs.Laying.{Lays}
 use Rattle.byte_map.proofs.Runs.{held_to, holder}
 use Rattle.record_lines.specs.Gathered.{HasRun, IsUnionOf}
 
--- what a call ensures where it answers a value
+-- what a call ensures if it answers a value
 pub where_some : {T E P : Type 0} (r : Result T E) (v : T) → result_ok r ≡ Some v → OnOk r P → P
 where_some (Ok value) v is p = p
 where_some (Err fault) v is p = absurd (cc)
 
--- what holds of each element of a list, of each in its two parts
+-- what holds for each element of a list holds for each of its two parts
 module _ {X : Type 0} (P : X → Type 0) where
   pub All-back : (xs ys : List X) → All P (xs ++ ys) → All P ys
   All-back [] ys all = all
@@ -44,7 +44,7 @@ part_of runs image a byte all is =
     All-get_or (HasRun image) runs k (record { at = 0; bytes = [] }) lt all a held ∙ ap Some (sym byte_is)
 
 module _ (piece : Run) (old new : List Run) (lays : Lays piece old new) where
-  -- what an image has stays where a run is added
+  -- an image keeps its bytes when a run is added
   laid_keeps : (a byte : ℕ) → byte_at old a ≡ Some byte → byte_at new a ≡ Some byte
   laid_keeps a byte is = lays.union a ∙ by (holds piece a) refl
     where
@@ -58,7 +58,7 @@ module _ (piece : Run) (old new : List Run) (lays : Lays piece old new) where
   laid_only : (a : ℕ) → holds piece a ≡ false → byte_at old a ≡ None → byte_at new a ≡ None
   laid_only a not_held none = lays.union a ∙ ap (λ (b : Bool). cond b (Some (byte_of piece a)) (byte_at old a)) not_held ∙ none
 
-  -- one run more
+  -- the union with one more run
   pub laid_one : (runs : List Run) → IsUnionOf runs old → IsUnionOf (runs ++ piece ∷ []) new
   laid_one runs union =
       record {
@@ -70,14 +70,14 @@ module _ (piece : Run) (old new : List Run) (lays : Lays piece old new) where
             (union.only a (All-front (λ (run : Run). holds run a ≡ false) runs (piece ∷ []) none));
       }
 
--- the first of some runs, and one more
+-- the union of the first runs of a list and the next one
 pub union_more : (runs : List Run) (index : ℕ) (run : Run) (old new : List Run) → index < length runs →
     get_or runs index (record { at = 0; bytes = [] }) ≡ run → Lays run old new → IsUnionOf (take index runs) old → IsUnionOf (take (index + 1) runs) new
 union_more runs index run old new lt is lays union =
     subst (λ (rs : List Run). IsUnionOf rs new) (sym (take_more runs index (record { at = 0; bytes = [] }) lt ∙ ap (λ (r : Run). take index runs ++ r ∷ []) is))
     (laid_one run old new lays (take index runs) union)
 
--- their order is all one
+-- the union of runs doesn't depend on their order
 pub union_permuted : (runs other image : List Run) → IsPermutation runs other → IsUnionOf other image → IsUnionOf runs image
 union_permuted runs other image moved union =
     record {

@@ -1,4 +1,4 @@
--- The table of the values of digits and the test of a digit, held against their definitions at each of the 256 bytes.
+-- The table of digit values and the test of a digit, compared with their definitions at each of the 256 bytes.
 use Rattle.std.proofs.Common.{◌≡◌, ◌<◌, ◌≤◌, ◌+◌, ◌%◌, ◌∙◌, ℕ, Bool, false, List, map, get_or, Option, Some, None, refl, sym, ap, arith, bit_or}
 use Rattle.std.specs.Prelude.{◌||◌, nat_lt, is_some, unwrap_or}
 use Rattle.std.specs.List.{range_with_len}
@@ -15,7 +15,7 @@ table_is : VALUES ≡ map value (range_with_len 0 256)
 unfolding hex_value
 table_is = refl
 
--- two tests that agree on each byte in a row
+-- two tests that agree on the bytes 0 to 255 one by one agree on each byte
 same_test : (f g : ℕ → Bool) → map f (range_with_len 0 256) ≡ map g (range_with_len 0 256) → (byte : ℕ) → byte < 256 → f byte ≡ g byte
 same_test f g same byte lt =
     sym (get_or-map-range_with_len f 0 256 byte byte false lt (omega arith))
@@ -36,11 +36,11 @@ tests_are : map is_tested (range_with_len 0 256) ≡ map is_hex_digit (range_wit
 unfolding hex_value
 tests_are = refl
 
--- the test of a byte by two ranges
+-- the test of a digit by two ranges is the one that the definition makes
 pub test_is : (byte : ℕ) → byte < 256 → (nat_lt ((byte + 208) % 256) 10 || nat_lt ((bit_or byte 32 + 159) % 256) 6) ≡ is_hex_digit byte
 test_is byte lt = same_test is_tested is_hex_digit tests_are byte lt
 
--- the value at a byte's place
+-- the table has at each byte the value of that digit
 pub value_at : (byte : ℕ) → byte < 256 → get_or VALUES byte 0 ≡ unwrap_or (hex_value byte) 16
 value_at byte lt = ap (λ (t : List ℕ). get_or t byte 0) table_is ∙ get_or-map-range_with_len value 0 256 byte byte 0 lt (omega arith)
 

@@ -1,4 +1,4 @@
--- The line of a target is the one that says done only where the target is done: no reason is that word.
+-- The line of a target says done only where the target is done: no refusal's text is that word.
 use Rattle.std.proofs.Common.{◌≡◌, refl, ap, arith, ℕ, List, ◌++◌, get_or, codes, Option, Some, None}
 use Rattle.std.proofs.lemmas.List.{append_cancel_left}
 use Rattle.report_text.specs.Calls.{failed_text}
@@ -11,7 +11,7 @@ use Rattle.report_text.specs.Refusal.{board_refused, store_fault, device_fault, 
 use Rattle.report_text.specs.Refusal.{mismatch, differs}
 use Rattle.report_text.specs.Target.{outcome_text, target_line}
 
--- a text whose first byte is another, or whose second one is
+-- a text isn't `done` if its first or its second byte is another
 other_first : (a : ℕ) (text : List ℕ) → text ≡ done_text → get_or text 0 0 ≡ a → (a ≡ 100 → ⊥) → ⊥
 other_first a text is first other =
     let same : get_or text 0 0 ≡ 100 = ap (λ (l : List ℕ). get_or l 0 0) is in

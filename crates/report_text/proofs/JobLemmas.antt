@@ -11,12 +11,12 @@ use Rattle.report_text.specs.Job.{bytes_in, device_line}
 abbrev size_of : Run → ℕ
 size_of r = length r.bytes
 
--- no more than there are addresses
+-- the runs of an image have no more bytes than there are addresses
 few_bytes : (low end : ℕ) (rs : List Run) → AreMaximal low end rs → bytes_in rs ≤ end - low
 few_bytes low end [] m = omega arith
 few_bytes low end (r ∷ rs) m = omega (arith, sum_by-cons size_of r rs, m.0, m.1, m.2, few_bytes (end_of r + 1) end rs m.3)
 
--- one run more
+-- the bytes of the first runs of an image and the next one
 module _ (image : List Run) (i : ℕ) (r : Run) (less : i < length image) (is : slice_get image i ≡ Some r) where
   pub bytes_more : bytes_in (take i image) + length r.bytes ≡ bytes_in (take (i + 1) image)
   bytes_more =
@@ -26,7 +26,7 @@ module _ (image : List Run) (i : ℕ) (r : Run) (less : i < length image) (is : 
   pub few_more : (end : ℕ) → AreMaximal 0 end image → bytes_in (take i image) + length r.bytes ≤ end
   few_more end m = omega (arith, bytes_more, sum_by-take-le size_of image (i + 1), few_bytes 0 end image m)
 
--- the lines of the devices, by the algorithms
+-- the lines of the devices, given by the algorithms
 pub devices_text : (those algorithms : List Algorithm) → those ≡ algorithms
     → flat_map (λ (a : Algorithm). device_line a.device) those ≡ flat_map device_line (map (λ (a : Algorithm). a.device) algorithms)
 devices_text those algorithms same =

@@ -1,4 +1,4 @@
--- What is said of a target stands on one line: none of its bytes is a line feed.
+-- What is said of a target is one line: none of its bytes is a line feed.
 use Rattle.std.proofs.Common.{◌≡◌, ◌≢◌, ◌+◌, ◌/◌, ◌%◌, ◌^◌, ◌==◌, refl, subst, arith, not, cond, Bool, true, false, ℕ, zero, suc, List, [], ◌∷◌, ◌++◌}
 use Rattle.std.proofs.Common.{All, Option, Some, None, codes, decimal, nat_lt, slice_index}
 use Rattle.std.specs.Fmt.{digit_glyph, digits, digits_onto}
@@ -22,7 +22,7 @@ use Rattle.report_text.specs.Refusal.{Refusal, out_of_memory, usage, no_job, not
 use Rattle.report_text.specs.Refusal.{mismatch}
 use Rattle.report_text.specs.Target.{target_line}
 
--- no byte is a line feed
+-- none of these bytes is a line feed
 abbrev IsPlain : List ℕ → Type 0
 IsPlain [] = Unit {0}
 IsPlain (byte ∷ rest) = (byte ≢ 10) × IsPlain rest

@@ -1,4 +1,4 @@
--- The texts of the members of a set, one after the other.
+-- The texts of the members of a set, one after another.
 use Rattle.std.proofs.Common.{◌≡◌, ◌<◌, ◌≤◌, ◌+◌, ◌-◌, ◌++◌, ◌∙◌, sym, ap, refl, arith, ℕ, zero, suc, Bool, true, false, not, ◌&&◌, List, [], ◌∷◌, length}
 use Rattle.std.proofs.Common.{get_or, append_assoc, append-nil, add-one, Ok, Err}
 use Rattle.std.specs.Prelude.{codes}
@@ -32,17 +32,17 @@ module _ (text : ℕ → List ℕ) where
   pub begins_below : (m n : ℕ) → m ≤ n → texts_below m text ++ rest_above m (n - m) ≡ texts_below n text
   begins_below m n less = below_then m (n - m) ∙ ap (λ (k : ℕ). texts_below k text) (let e : m + (n - m) ≡ n = omega arith in e)
 
-  -- no number yet
+  -- no text is gathered so far
   pub gathers_none : (tells : Bool) (a : SinkState) (w : List ℕ) (u : Unit {0}) → Gathers tells a a w w (texts_below 0 text) (Ok u)
   unfolding texts_below
   gathers_none tells a w u = gathers_nothing tells a w u
 
-  -- one more
+  -- the text of the next number was gathered
   pub gathers_next : {tells : Bool} {a b c : SinkState} {v w x : List ℕ} {i j : Unit {0}} (n : ℕ) → Gathers tells a b v w (texts_below n text) (Ok i)
       → Gathers tells b c w x (text n) (Ok j) → Gathers tells a c v x (texts_below (n + 1) text) (Ok j)
   gathers_next n one two = gathers_as (below_next n) (gathers_then _ one two)
 
-  -- one that a fault broke off
+  -- a fault broke off the text of the next number
   pub gathers_broken : {tells : Bool} {a b c : SinkState} {v w x : List ℕ} {i : Unit {0}} {e : OutputFault} (n all : ℕ) → n < all
       → Gathers tells a b v w (texts_below n text) (Ok i) → Gathers tells b c w x (text n) (Err e) → Gathers tells a c v x (texts_below all text) (Err e)
   gathers_broken n all less one two =

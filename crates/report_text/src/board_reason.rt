@@ -1,4 +1,4 @@
-//! What the refusals of a board's text are called.
+//! The texts of the faults of a board's text.
 ghost use Rattle.report_text.specs.Faults.{board_text};
 ghost use Rattle.outside_io.specs.Puts.{Puts};
 
@@ -6,7 +6,7 @@ use crate::pieces::put_pieces;
 use board_file::BoardFault;
 use outside_io::{OutputFault, Sink};
 
-/// Puts the refusal of a board's text.
+/// Puts the text of a fault of a board's text.
 #[tactic(auto, unfolding(crate::specs::Faults::board_text))]
 pub fn put_board_fault<E: Sink>(err: &mut E, fault: BoardFault) -> Result<(), OutputFault>
     ensures { Puts E.tells (E.state err.old) (E.state err.new) (board_text fault) result }

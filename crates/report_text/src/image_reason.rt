@@ -1,4 +1,4 @@
-//! What the refusals of images are called.
+//! The texts of the faults of images.
 ghost use Rattle.std.specs.Prelude.{◌≡◌, ◌++◌, [], ◌∷◌};
 ghost use Rattle.std.specs.List.{concat};
 ghost use Rattle.report_text.specs.Faults.{any_text, checksum_text, conflict_text, counts_text, faulty_line, file_text, hex_kind_text, image_text, place_text};

@@ -11,8 +11,8 @@ use octets::hex_digits;
 use outside_io::{Gathered, OutputFault, Sink};
 use page_geometry::Geometry;
 
-/// Puts what a plan erases, what it programs and what it costs, line by line, for the device of this geometry, whose first
-/// byte has the address `base`. A fault may leave a beginning of it. It goes out in pieces of up to 4,096 bytes.
+/// Puts what a plan erases, what it programs and what it costs, line by line, for a device of this geometry with its first byte at the
+/// address `base`. A fault may leave a beginning of it. It goes out in pieces of up to 4,096 bytes.
 pub fn put_plan<O: Sink>(
     out: &mut O,
     geometry: &Geometry,
@@ -57,7 +57,7 @@ fn gather_kind<O: Sink>(out: &mut O, text: &mut Gathered, plan: &Plan) -> Result
     text.add_all(out, &[b"plan sectors\n"])
 }
 
-/// Gathers a line for the chip where it is erased, or else one for each sector.
+/// Gathers a line for the chip if it is erased, or else one for each erased sector.
 fn gather_erasures<O: Sink>(
     out: &mut O,
     text: &mut Gathered,
@@ -92,7 +92,7 @@ fn gather_sectors<O: Sink>(
     Ok(())
 }
 
-/// Gathers the line of a sector where it is erased.
+/// Gathers the line of a sector if it is erased.
 fn gather_sector<O: Sink>(
     out: &mut O,
     text: &mut Gathered,
@@ -132,7 +132,7 @@ fn gather_pages<O: Sink>(
     Ok(())
 }
 
-/// Gathers the line of a page where it is programmed.
+/// Gathers the line of a page if it is programmed.
 fn gather_page<O: Sink>(
     out: &mut O,
     text: &mut Gathered,

@@ -1,4 +1,4 @@
-//! What the refusals of files are called.
+//! The texts of the faults of files.
 ghost use Rattle.std.specs.Prelude.{◌≡◌, [], ◌∷◌, decimal};
 ghost use Rattle.std.specs.List.{concat};
 ghost use Rattle.report_text.specs.Faults.{elf_text, field_text, flm_text};
@@ -11,7 +11,7 @@ use itoa::Buffer;
 use octets::hex_digits;
 use outside_io::{OutputFault, Sink};
 
-/// Puts the refusal of an FLM file.
+/// Puts the text of a fault of an FLM file.
 #[tactic(auto, unfolding(crate::specs::Faults::flm_text))]
 pub fn put_flm_fault<E: Sink>(err: &mut E, fault: FlmFault) -> Result<(), OutputFault>
     ensures { Puts E.tells (E.state err.old) (E.state err.new) (flm_text fault) result }
@@ -39,7 +39,7 @@ pub fn put_flm_fault<E: Sink>(err: &mut E, fault: FlmFault) -> Result<(), Output
     }
 }
 
-/// Puts the refusal of an ELF file.
+/// Puts the text of a fault of an ELF file.
 #[tactic(auto, unfolding(crate::specs::Faults::elf_text))]
 pub fn put_elf_fault<E: Sink>(err: &mut E, fault: ElfFault) -> Result<(), OutputFault>
     ensures { Puts E.tells (E.state err.old) (E.state err.new) (elf_text fault) result }

@@ -25,10 +25,10 @@ use job_file::OpenFault;
 use octets::{Word, hex_digits};
 use outside_io::{OutputFault, Sink};
 
-/// Why a call ends otherwise than done.
+/// Why a call didn't end as done.
 #[derive(Clone, Copy)]
 pub enum Refusal<'a> {
-    /// There was no memory.
+    /// Out of memory.
     OutOfMemory,
 
     /// The words fit no command.
@@ -56,13 +56,13 @@ pub enum Refusal<'a> {
         fault: ImageFault,
     },
 
-    /// An input file is no FLM file.
+    /// An FLM file was refused.
     FlmRefused {
         fault: FlmFault,
     },
 
     /// An FLM file is for a device with another base or size than the board's region. The base and the size, in bytes, are
-    /// the file's.
+    /// those of the file.
     OtherDevice {
         base: u32,
         size: u32,
@@ -74,7 +74,7 @@ pub enum Refusal<'a> {
         have: u64,
     },
 
-    /// An input file describes no board.
+    /// The text of a board was refused.
     BoardRefused {
         fault: BoardFault,
     },
@@ -90,13 +90,13 @@ pub enum Refusal<'a> {
         at: u64,
     },
 
-    /// The job file keeps another SHA-256 than that of its bytes which was found.
+    /// The SHA-256 that the job file keeps differs from that of its bytes.
     Damaged {
         kept: [u8; 32],
         found: [u8; 32],
     },
 
-    /// There are other than the regions' number of cells.
+    /// The bench has another number of cells than the regions.
     CellsDiffer {
         wanted: u32,
         found: u32,
@@ -111,21 +111,21 @@ pub enum Refusal<'a> {
     /// The standard output failed.
     OutputFault,
 
-    /// A call of the algorithm, by its number in the session from 1 on, ended otherwise than done.
+    /// A call of the algorithm didn't end as done. Its number in the session counts from 1.
     CallFailed {
         number: u32,
         call: Call,
         end: CallEnd,
     },
 
-    /// All calls were done, and the cell at an address isn't the byte that is wanted there.
+    /// All calls were done, but the cell at an address isn't the byte wanted there.
     Mismatch {
         at: u32,
         wanted: u8,
         found: u8,
     },
 
-    /// The cell at a place isn't the byte that is wanted there.
+    /// The cell at a place isn't the byte wanted there.
     Differs {
         at: u32,
         wanted: u8,
@@ -302,7 +302,7 @@ fn has_control(name: &[u8]) -> bool
     name.iter().any(|byte| byte.is_ascii_control())
 }
 
-/// Puts the bytes of a name as they are shown.
+/// Puts the bytes of a name with a dot for each control character.
 fn put_visible<E: Sink>(err: &mut E, name: &[u8]) -> Result<(), OutputFault>
     ensures { Puts E.tells (E.state err.old) (E.state err.new) (flat_map (λ byte. visible byte ∷ []) name.now) result }
 {
@@ -312,7 +312,7 @@ fn put_visible<E: Sink>(err: &mut E, name: &[u8]) -> Result<(), OutputFault>
     Ok(())
 }
 
-/// A byte of a name as it is shown.
+/// A byte of a name as it is printed.
 fn visible(byte: u8) -> u8
     ensures { result ≡ visible byte }
 {
@@ -400,7 +400,7 @@ fn put_cells<E: Sink>(err: &mut E, wanted: u32, found: u32) -> Result<(), Output
     )
 }
 
-/// Puts a place or an address, with the byte that is wanted there and the one that was found.
+/// Puts a place or an address, the byte wanted there, and the one found.
 #[tactic(auto, unfolding(crate::specs::Lines::difference_text))]
 fn put_difference<E: Sink>(
     err: &mut E,

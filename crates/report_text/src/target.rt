@@ -9,7 +9,7 @@ use crate::refusal::{Refusal, put_reason};
 use itoa::Buffer;
 use outside_io::{OutputFault, Sink};
 
-/// Puts the line of the target of this number, where the first has 1: that it is done, or why it isn't. A fault may leave a beginning
+/// Puts the line of the target with this number, where the first has 1: that it is done, or why it isn't. A fault may leave a beginning
 /// of it.
 pub fn put_target<O: Sink>(
     out: &mut O,

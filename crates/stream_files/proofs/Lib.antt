@@ -1,2 +1,2 @@
--- Reads and writes in as many calls as they take.
+-- Reads and writes, in as many calls as they take.
 pub mod RunLemmas

@@ -1,4 +1,4 @@
--- Reads and writes in as many calls as they take.
+-- Reads and writes of all bytes, in as many calls as that takes.
 use Rattle.std.proofs.Common.{◌≡◌, ◌<◌, ◌≤◌, ◌+◌, ◌++◌, ◌∙◌, ap, sym, subst, refl, ℕ, List, [], ◌∷◌, Bool, IsTrue, Result, Ok, length, take, drop, arith}
 use Rattle.std.proofs.Common.{append_assoc, append-nil, length-drop, length-append}
 use Rattle.std.proofs.Common.{◌⊎◌, inl, inr}
@@ -51,7 +51,7 @@ module _ (tells : Bool) (old mid new : StreamState) (bytes : List ℕ) (done sto
     signals = λ told. omega (arith, so_far.signals told, (calls told).1);
   }
 
-  -- a write of none of the bytes
+  -- a write took none of the bytes
   pub taken_nothing : {E : Type 0} (rest : List ℕ) (result : Result ℕ E) (n : ℕ) → WritesOn tells mid new rest result → result ≡ Ok n → n ≡ 0 → IsTrue tells
       → new.taken ≡ mid.taken
   taken_nothing {E} rest result n writes is none told =
@@ -68,7 +68,7 @@ module _ (tells : Bool) (old mid new : StreamState) (bytes : List ℕ) (done sto
     appended = stays ∙ so_far.taken told;
   }
 
--- where nothing more is read there is nothing more
+-- if a read gives nothing, nothing is left
 at_end : {n : ℕ} (rest : List ℕ) → (0 < length rest → 0 < n) → n ≡ 0 → rest ≡ []
 at_end {n} [] more none = refl
 at_end {n} (byte ∷ rest) more none =
@@ -111,18 +111,18 @@ module _ (tells : Bool) (old mid new : SourceState) (before bytes : List ℕ) (s
     signals = λ told. omega (arith, so_far.signals told, (calls told).1);
   }
 
-  -- a read of nothing
+  -- a read gave nothing
   pub read_nothing : {E : Type 0} (from to : List ℕ) (result : Result ℕ E) (n : ℕ) → ReadsOn tells mid new from to result → result ≡ Ok n → n ≡ 0
       → IsTrue tells → mid.rest ≡ []
   read_nothing {E} from to result n reads is none told =
       let more : 0 < length mid.rest → 0 < n = subst (λ (r : Result ℕ E). IfOk r (λ (m : ℕ). 0 < length mid.rest → 0 < m)) is (reads.more told) in
       at_end mid.rest more none
 
-  -- at the end
+  -- the whole file was read
   pub read_all : IsTrue tells → mid.rest ≡ [] → bytes ≡ before ++ old.rest
   read_all told is = sym (append-nil bytes) ∙ ap (λ (l : List ℕ). bytes ++ l) (sym is) ∙ so_far.read told
 
-  -- how long it is at least
+  -- how many bytes were read and are left
   pub at_least : IsTrue tells → length bytes + length mid.rest ≡ length before + length old.rest
   at_least told = omega (arith, ap length (so_far.read told), length-append bytes mid.rest, length-append before old.rest)
 

@@ -6,15 +6,15 @@ use std::io;
 
 /// Files by name. One of them is read at a time, from its beginning.
 ///
-/// Each call may fail, and counts that. A read that a signal interrupted is no error: it can be made again.
+/// A call may fail, and each failure is counted. A read that a signal interrupted is no error: it can be made again.
 pub trait Source {
-    /// Whether it tells what stands under its names.
+    /// Whether contracts see what file each name has.
     ghost tells: { Bool };
 
-    /// What it means.
+    /// The state of the files.
     ghost state: { Self → SourceState };
 
-    /// Opens the file of a name, in place of the one that was open.
+    /// Opens the file of a name. The file that was open before is closed.
     fn open(&mut self, name: &str) -> io::Result<()>
         ensures ok { IsTrue tells → OnOk result ((state self.old).stands name.now ≡ Some (state self.new).rest) }
         ensures names { (other : List ℕ) → (state self.new).stands other ≡ (state self.old).stands other }
@@ -26,7 +26,7 @@ pub trait Source {
         ensures rest { IsTrue tells → (state self.new).rest ≡ (state self.old).rest }
         ensures fails { IsTrue tells → CallEnds (state self.old).calls (state self.new).calls result };
 
-    /// Reads some of the next bytes of the open file into a buffer that has room. None are read only at its end.
+    /// Reads some of the next bytes of the open file into a buffer that has room. It reads none only at the end of the file.
     fn read(&mut self, out: &mut [u8]) -> io::Result<usize>
         requires { 0 < length out.old }
         ensures names { (other : List ℕ) → (state self.new).stands other ≡ (state self.old).stands other }

@@ -13,7 +13,7 @@ use std::io::ErrorKind;
 /// How many bytes are read at a time.
 const CHUNK: usize = 65_536;
 
-/// A host's files by their names. They tell what stands under a name where the host does.
+/// A host's files by their names. Contracts see them where they see the host's.
 #[derive(Drop)]
 pub struct SourceInputs<S: Source> {
     source: S,
@@ -36,7 +36,7 @@ impl<S: Source> SourceInputs<S> {
     }
 }
 
-/// Reads a file to its end. One longer than `LONGEST` is an error.
+/// Reads a file to its end. It is an error if it is longer than `LONGEST`.
 fn read_file<S: Source>(source: &mut S, alloc: Global, name: &str) -> io::Result<Vec<u8>>
     ensures short { IfOk result (λ bytes. vec_len bytes ≤ LONGEST) }
     ensures names { (other : List ℕ) → (S.state source.new).stands other ≡ (S.state source.old).stands other }
@@ -50,7 +50,7 @@ fn read_file<S: Source>(source: &mut S, alloc: Global, name: &str) -> io::Result
     read_to_end(source, Vec::with_capacity(alloc, size)?)
 }
 
-/// Appends what is still to be read of the open file. More than `LONGEST` bytes are an error. A read that a signal interrupted is made
+/// Appends the rest of the open file. More than `LONGEST` bytes are an error. A read that a signal interrupted is made
 /// again.
 fn read_to_end<S: Source>(source: &mut S, mut bytes: Vec<u8>) -> io::Result<Vec<u8>>
     requires { vec_len bytes ≤ LONGEST }

@@ -4,13 +4,13 @@ ghost use Rattle.stream_files.specs.Outside.{StreamState, WriteEnds, WritesOn};
 
 use std::io;
 
-/// A stream that takes bytes. A call may fail, and counts that; one that takes nothing of bytes that aren't none is counted too. One that a
+/// A stream that takes bytes. A call may fail, and each failure is counted; taking none of some bytes counts too. A call that a
 /// signal interrupted is no error: it can be made again.
 pub trait Stream {
-    /// Whether it tells what it has taken.
+    /// Whether contracts see what the stream has taken.
     ghost tells: { Bool };
 
-    /// What it means.
+    /// The state of the stream.
     ghost state: { Self → StreamState };
 
     /// Takes some of the bytes.

@@ -9,7 +9,7 @@ use outside_io::{OutputFault, Sink};
 use std::io;
 use std::io::ErrorKind;
 
-/// A sink over a stream, which takes each piece at once. It tells what it has taken where the stream does.
+/// A sink over a stream, which gets each piece at once. Contracts see what it has taken where they see it of the stream.
 #[derive(Drop)]
 pub struct StreamSink<S: Stream> {
     stream: S,
