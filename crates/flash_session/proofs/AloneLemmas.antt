@@ -1,4 +1,4 @@
--- A target that has ended, and where one begins.
+-- A target that has ended has an outcome of its own script, and a target begins with its whole script left.
 use Rattle.std.proofs.Common.{◌≡◌, ◌≤◌, ◌+◌, ◌*◌, ◌∙◌, ◌↔◌, ℕ, Bool, IsTrue, Option, List, [], ◌∷◌, ◌++◌, refl, sym, ap, subst, arith}
 use Rattle.bench_model.specs.History.{left, Leaves}
 use Rattle.bench_model.specs.State.{SameOutside, BenchState, cells_half}
@@ -32,7 +32,7 @@ use Rattle.flash_session.specs.Alone.{FollowsAs}
 use Rattle.flash_session.proofs.RestLemmas.{script_is}
 use Rattle.flash_session.proofs.TurnLemmas.{no_more}
 
--- before its first turn a target has done nothing, and the whole script is left
+-- before its first turn a target has made no move, and the whole script is left
 pub first_way : (l : Legs) → OnWay l [] (rest_of l (at.Begin First stage.Erase))
 first_way l b = (b, script_is l b)
 
@@ -50,13 +50,13 @@ module _ (legs : List Leg) (goal : List ℕ) (a : Stand) (way : List Move) (star
   ends_alone (ended.Survey fault) is = is.ends
   ends_alone e is = record { broken = is.broken; ends = is.ends; moments = all_moments is.broken is.later is.whole }
 
--- ---- before its next turn
+-- ---- before a target's next turn
 
 path_is : (s : Setup) (w : World) (r : Request) → path_of s w r ≡ run_path s.layout.return_at (fuel_of s r.call) (first_point s w r)
 unfolding path_of
 path_is s w r = refl
 
--- a point of the call that is being made
+-- the world of a call in progress is a point of the script's path
 in_call : (s : Setup) (a : Stand) (way : List Move) (call : Call) (len left made : ℕ) (here : Point) (return_at : ℕ)
     → InCall s a way call len left made here return_at → IsOnPath a way here.world
 in_call s a way call len left made here return_at x =
@@ -77,7 +77,7 @@ on_now l goal s a way (place.In call len left next) made here return_at now goin
 on_now l goal s a way (place.Ended e) made here return_at now going stands = absurd going
 on_now l goal s a way p made here return_at now going stands = end_on a (stand_at made here.world) way stands.1
 
--- with no turn at all it has gone on by no move
+-- a target that has made no turn has continued by no move
 pub goes_here : (tells : Bool) (told : IsTrue tells) (a : Stand) (way : List Move) (goal : List ℕ) (x : Player) (arena : List (List ℕ)) (now : BenchState)
     → IsUnended x.place → Fit tells x arena now
     → ((c : List ℕ) → left (cells_half now) c ↔ SameOutside now.operation now.cells c) → StandsOn a way goal x arena now → GoesOn a way goal x arena now now
@@ -100,7 +100,7 @@ stands_first x goal arena now is made =
     subst (λ (p : Place). P p x.made) (sym is) (subst (λ (n : ℕ). P (place.At (at.Begin First stage.Erase)) n) (sym made)
     (first_way (legs_for x goal), run_none a))
 
--- ---- a target that goes on stands at a point of its own script's path, whatever the resets to come leave
+-- ---- a target that hasn't ended is at a point of its own script's path, whatever cells the resets still to come leave
 
 of_way : (l : Legs) (a : Stand) (way : List Move) (later : Broken → List Move) (w : World) → OnWay l way later → IsOnPath a way w → (b : Broken)
     → (whole : Broken) × IsOnPath a (script (all_legs l) whole) w

@@ -1,4 +1,4 @@
--- What a call that has ended makes of the moves before it.
+-- How the moves before a call and the call itself end, once the call has ended.
 use Rattle.std.proofs.Common.{◌≡◌, ◌+◌, ◌∙◌, ℕ, false, List, [], ◌∷◌, ◌++◌, Ok, Err, refl, sym, ap, arith}
 use Rattle.bench_model.specs.History.{Leaves}
 use Rattle.bench_model.specs.State.{BenchState, cells_half}
@@ -18,7 +18,7 @@ use Rattle.flash_session.specs.Plays.{BreaksOff}
 use Rattle.flash_session.proofs.Playing.{done_run, failed_run}
 use Rattle.flash_session.proofs.Runs.{run_one, run_then, on_then, of_one}
 
--- the moves went, or ended with the call that was not done, or were broken off in it
+-- the moves were all made, or ended with the call that was not done, or were broken off in that call
 abbrev pub Came : Stand → List Move → ℕ → Call → CallEnd → World → BenchState → Type 0
 Came a way made call call_end.Done w' end = run a way ≡ Ok (stand_at (made + 1) w')
 Came a way made call (call_end.Refused r0) w' end = run a way ≡ Err (failure (made + 1) call (call_end.Refused r0) w')

@@ -1,4 +1,4 @@
--- A turn from its parts.
+-- A turn keeps what holds of a target, put together from its parts.
 use Rattle.std.proofs.Common.{◌≡◌, ◌<◌, ◌+◌, ◌^◌, ◌∙◌, ℕ, Bool, IsTrue, List, [], length, refl, sym, ap, subst, arith}
 use Rattle.bench_model.specs.State.{BenchState}
 use Rattle.bench_model.specs.Calls.{FileStays, FileIsRead}
@@ -34,7 +34,7 @@ unbroken_is Second stage.Erase = refl
 unbroken_is Second stage.Program = refl
 unbroken_is Second stage.Verify = refl
 
--- a sound end is one of a script
+-- a sound end of a target is an end that its script may come to
 pub of_script : (tells : Bool) (size : ℕ) (e : TargetEnd) (b : BenchState) → IsSoundEnd tells size e b → IsScriptEnd e
 of_script tells size ended.Done b sound = tt
 of_script tells size (ended.Open fault) b sound = absurd sound
@@ -44,11 +44,11 @@ of_script tells size (ended.Mismatch d) b sound = sound.1
 of_script tells size ended.StoreFault b sound = tt
 of_script tells size ended.DeviceFault b sound = tt
 
--- a file that stays is only read
+-- a file that isn't touched counts as one that is only read
 pub file_kept : (tells : Bool) (s t : BenchState) → FileStays s t → FileIsRead tells s t
 file_kept tells s t stays = record { file = λ told. stays.file; moments = stays_adds_nothing stays.half }
 
--- ---- where it stands, by the script of before
+-- ---- the state of a target after a turn, by the script that it had before
 
 pub stands_same : (old new : Player) (a : Stand) (way : List Move) (goal : List ℕ) (arena : List (List ℕ)) (now : BenchState) → SameTarget old new
     → Stands (legs_for old goal) goal (setup_now new) a way new.place new.made (point_for new arena now.cells) new.calls.machine.return_at now

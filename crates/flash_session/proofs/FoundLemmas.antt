@@ -1,4 +1,4 @@
--- What the surveys of a job's regions found, one after the other, is the survey of the job. `survey_for` joins its two surveys by them.
+-- What the surveys of a job's regions found, one after another, is the survey of the job. `survey_for` joins its two surveys by these lemmas.
 use Rattle.std.proofs.Common.{◌≡◌, ◌<◌, ◌+◌, ◌^◌, ◌∙◌, ℕ, Bool, IsTrue, is_some, Result, Err, List, [], ◌∷◌, map, option_to_list, length, take, drop}
 use Rattle.std.proofs.Common.{Option, Some, None, sym, ap, subst, arith}
 use Rattle.std.proofs.lemmas.List.{take_all}
@@ -59,7 +59,7 @@ found_still tells j a start c d g h r one two is =
       wanted = λ told. subst (λ (l : List ℕ). AreBytes l) (mine g h (two told)) (is.wanted told);
     }
 
--- what a survey to the goal of a job made of the memory for a region
+-- what a survey with the goal of a job makes of the memory for a region's plan
 pub found_by : (tells : Bool) (j : Bor Job) (g : Goal) (a : AlgorithmShown) (start : ℕ) (s : BenchState) (r : RegionPlan) → IsRegionPlanFor a r →
     r.start ≡ start
     → IsMadeFrom tells (from.Job j g) j.now.board.weights a r.geometry r.start s r.plan.made → IsFound tells j.now a start s.cells (goal_in j.now g s.file) r
@@ -93,7 +93,7 @@ found_by tells j g a start s r part place made =
       wanted = λ told. subst (λ (l : List ℕ). AreBytes l) (wanted told) made.wanted_bytes;
     }
 
--- cells and file that were only read are the same
+-- what was found stays true if cells and file were only read
 pub later_still : (tells : Bool) (j : Job) (start : ℕ) (algorithms : List AlgorithmShown) (c d g h : List ℕ) (works : List RegionPlan)
     → (IsTrue tells → c ≡ d) → (IsTrue tells → g ≡ h)
     → AreFound tells j start algorithms c g works → AreFound tells j start algorithms d h works
@@ -123,7 +123,7 @@ pub handed : (is : Option BenchFault → Bool) (T : Type 0) (a b : ℕ) (r : Res
     → IsCounted a b (is (survey_fault e)) → IsCounted a b (is (fault_in survey_fault r))
 handed is T a b r e same one = subst (λ (q : Result T SurveyFault). IsCounted a b (is (fault_in survey_fault q))) (sym same) one
 
--- the bytes of two parts are those of all
+-- two parts that are lists of bytes make a list of bytes
 both_bytes : (n m at : ℕ) (cells : List ℕ) → length cells ≡ n + m → at ≡ n → AreBytes (take n cells) → AreBytes (take m (drop at cells)) → AreBytes cells
 both_bytes n m at cells long is one two =
     subst (λ (l : List ℕ). AreBytes l) (sym (two_parts n m cells long))
@@ -168,7 +168,7 @@ module _ (tells : Bool) (j : Job) (cells goal : List ℕ) (long : IsTrue tells �
       }
   whole_found (a ∷ c ∷ d ∷ rest) (Some r) fit are = absurd are.1.1
 
--- the work on all regions is what a survey of the job finds
+-- the plans of all regions are what a survey of the job finds
 pub surveyed_all : (tells : Bool) (j : Job) (g : Goal) (file cells : List ℕ) → (IsTrue tells → length cells ≡ size_of j.board.regions)
     → (IsTrue tells → length (goal_in j g file) ≡ size_of j.board.regions) → (t : SessionWork) → t.goal ≡ g
     → AreFound tells j 0 (algorithms_shown j.algorithms) cells (goal_in j g file) (t.first ∷ option_to_list t.second)

@@ -1,4 +1,4 @@
--- An image laid over the cells of regions, part by part. `want_into` lays the image so, and each window or page of a goal is a part of what it lays.
+-- An image laid over the cells of regions, part by part, as `want_into` does. Each window or page of a goal is a part of what it lays.
 use Rattle.std.proofs.Common.{◌≡◌, ◌<◌, ◌≤◌, ◌+◌, ◌-◌, ◌++◌, ◌∙◌, ⊎_elim, min, ℕ, zero, suc, All, List, [], ◌∷◌, length, take, drop, refl, sym}
 use Rattle.std.proofs.Common.{ap, subst, arith, length-take, length-drop}
 use Rattle.std.proofs.lemmas.Bool.{cases_lt}
@@ -33,12 +33,12 @@ over_append image base (c ∷ cells) more =
 
 -- ---- cells of regions, from a place on
 
--- regions that end by the last address
+-- regions that each end within the 32-bit addresses
 pub fit_rest : (regions : List Region) (r : Region) (rest : List Region) → regions ≡ r ∷ rest → All (λ q. q.base + q.size ≤ addresses) regions
     → All (λ q. q.base + q.size ≤ addresses) rest
 fit_rest regions r rest is fit = λ k d less. (subst (λ (l : List Region). All (λ q. q.base + q.size ≤ addresses) l) is fit) (suc k) d (omega (arith, less))
 
--- past the first region
+-- a part of the cells that begins after the first region
 past : (n at size : ℕ) (front behind : List ℕ) → size ≤ at → length front ≡ size → take n (drop (at - size) behind) ≡ take n (drop at (front ++ behind))
 past n at size front behind le long =
     let e : length front + (at - size) ≡ at = omega (arith, le, long) in
@@ -78,7 +78,7 @@ module _ (n at size here : ℕ) (front behind : List ℕ) (inside : at < size) (
       (λ (le : size - at ≤ n). first_part (omega (arith, is, le)) le)
       (cases_lt n (size - at))
 
--- an image over the part of a region's cells from a place on
+-- an image laid over the part of a region's cells from a place on
 pub over_from : (image : List Run) (base size at here : ℕ) (snapshot : List ℕ) → at + here ≤ size
     → over image (base + at) (take here (drop at snapshot)) ≡ take here (drop at (over image base (take size snapshot)))
 over_from image base size at here snapshot inside =

@@ -1,4 +1,4 @@
--- One turn more of what a stop leaves.
+-- What a stop leaves, after one turn more.
 use Rattle.std.proofs.Common.{◌≡◌, ◌∙◌, ◌↔◌, inl, ℕ, Bool, IsTrue, List, ◌∷◌, ◌++◌, ◌+◌, drop, None, Option, refl, sym, ap, subst, arith, true}
 use Rattle.bench_model.specs.History.{left, Leaves, LeftOnly}
 use Rattle.bench_model.specs.State.{SameOutside, BenchState, file_half, cells_half}
@@ -23,7 +23,7 @@ pub over_going : (p : Place) → turn_of p ≡ turn.Ended → IsUnended p → �
 over_going (place.Ended e) over going = going
 over_going p over going = cc
 
--- a file that stays, where the target isn't done
+-- a file that stays is right for a target that isn't done
 file_kept : (body : List ℕ) (p : Place) (f : List ℕ) → (IsDone p → ⊥) → IsWhole body f → FileAt body p f
 file_kept body (place.Ended ended.Done) f other whole = absurd (other tt)
 file_kept body (place.Ended ended.StoreFault) f other whole = inl whole
@@ -41,7 +41,7 @@ file_closed body (place.Ended ended.Done) old new same is = is ∙ ap (λ (l : L
 file_closed body (place.Ended ended.StoreFault) old new same is = subst (λ (l : List ℕ). IsWholeOrClosed l new) same is
 file_closed body p old new same is = absurd is
 
--- a close has no other end than done and a fault of the store
+-- a close ends only as done or with a fault of the job file
 close_ends : (p : Place) (old new : List ℕ) → ClosedFile p old new → (e : TargetEnd) → p ≡ place.Ended e → has_no_close e ≡ true → ⊥
 close_ends (place.Ended ended.Done) old new is e same none =
     let done : ended.Done ≡ e = cc in let no_ : has_no_close ended.Done ≡ true = ap has_no_close done ∙ none in cc
@@ -74,7 +74,7 @@ module _ (tells : Bool) (told : IsTrue tells) (goal : List ℕ) (a : Stand) (way
   file_by : (p : Place) → x.place ≡ p → FileTurn tells p y.place t u
   file_by p is = subst (λ (q : Place). FileTurn tells q y.place t u) is turns.file
 
-  -- a turn that is no close
+  -- a turn that isn't the close
   quiet : KeepsFile tells y.place t u → IsWhole body t.file → PairsLeave s t (HasBody body) → Guarded body goal y.place s u
   quiet keeps whole before =
       let now : PairsLeave t u (HasBody body) =
@@ -88,7 +88,7 @@ module _ (tells : Bool) (told : IsTrue tells) (goal : List ℕ) (a : Stand) (way
         over = λ over. (u.moment + 1, never (HasBody body) (IsAtClose body goal) all, (λ e is none. omega arith));
       }
 
-  -- the close
+  -- the turn that is the close
   at_close : x.place ≡ place.Closing → Closes tells y.place t u → IsWhole body t.file → PairsLeave s t (HasBody body) → Guarded body goal y.place s u
   at_close is closes whole before =
       let standing = subst (λ (q : Place). Stands (legs_for x goal) goal (setup_now x) a way q x.made (point_for x arena t.cells) x.calls.machine.return_at t)
@@ -122,7 +122,7 @@ module _ (tells : Bool) (told : IsTrue tells) (goal : List ℕ) (a : Stand) (way
   pub guarded_then : IsUnended x.place → Guarded body goal x.place s t → Guarded body goal y.place s u
   guarded_then going guarded = by_place x.place refl (guarded.going going).0 (guarded.going going).1
 
-  -- a target that goes on has the file as it was
+  -- a target that hasn't ended has the file as it was
   file_still : (p : Place) → x.place ≡ p → IsUnended y.place → u.file ≡ t.file
   file_still (place.At c) is going = (file_by (place.At c) is).read.file told
   file_still (place.In call len left_ next) is going = (file_by (place.In call len left_ next) is).read.file told

@@ -1,4 +1,4 @@
--- Duties as the ideal device does them: from one contents to another. `Serving` leads the cells of a region through the phases of its plan by them.
+-- Duties as the ideal device does them, from one contents to another. `Serving` uses them for the phases of a region's plan.
 use Rattle.std.proofs.Common.{◌≡◌, ◌<◌, ◌≤◌, ◌+◌, ◌-◌, ◌^◌, ◌∙◌, ⊎_elim, ℕ, Bool, true, false, cond, All, List, [], ◌∷◌, ◌++◌, map, length, take, drop, get_or}
 use Rattle.std.proofs.Common.{slice_index, Some, refl, sym, ap, subst, append_assoc, length-append, length-take, length-drop, arith}
 use Rattle.std.proofs.lemmas.Grind.{get_or_default_zero}
@@ -17,11 +17,11 @@ use Rattle.algo_calls.proofs.IdealLemmas.{acts_length, does_same, in_three}
 
 -- ---- other cells in a region
 
--- these cells with other ones in the region
+-- the cells with other ones in the region
 abbrev pub put : Site → List ℕ → List ℕ → List ℕ
 put site x cells = take site.start cells ++ (x ++ drop (site.start + site.layout.size) cells)
 
--- the region lies among the cells
+-- the region lies among all cells
 abbrev pub IsAmong : Site → List ℕ → Type 0
 IsAmong site cells = site.start + site.layout.size ≤ length cells
 
@@ -33,14 +33,14 @@ part_long site cells among = omega (arith, among, length-take site.layout.size (
 front_long : (site : Site) (cells : List ℕ) → IsAmong site cells → length (take site.start cells) ≡ site.start
 front_long site cells among = omega (arith, among, length-take site.start cells)
 
--- what was put into a region is its part
+-- the part of a region after a put is what was put there
 pub put_part : (site : Site) (x cells : List ℕ) → IsAmong site cells → length x ≡ site.layout.size → part site (put site x cells) ≡ x
 put_part site x cells among long =
     let rest = drop (site.start + site.layout.size) cells in
     ap (λ (l : List ℕ). take site.layout.size l) (drop_at (take site.start cells) (x ++ rest) site.start (front_long site cells among))
     ∙ take_at x rest site.layout.size long
 
--- the cells outside the region stay
+-- a put leaves the cells outside the region as they were
 pub put_outside : (site : Site) (x cells : List ℕ) → IsAmong site cells → length x ≡ site.layout.size
     → SameOutside (Some (site.start, site.layout.size)) cells (put site x cells)
 put_outside site x cells among long =
@@ -57,18 +57,18 @@ put_outside site x cells among long =
 pub put_long : (site : Site) (x cells : List ℕ) → IsAmong site cells → length x ≡ site.layout.size → length (put site x cells) ≡ length cells
 put_long site x cells among long = (put_outside site x cells among long).0
 
--- of two contents put into a region the later one stays
+-- of two contents put into a region, the second one stays
 pub put_again : (site : Site) (x y cells : List ℕ) → IsAmong site cells → length y ≡ site.layout.size → put site x (put site y cells) ≡ put site x cells
 put_again site x y cells among long =
     let same = put_outside site y cells among long in
     ap (λ (l : List ℕ). l ++ (x ++ drop (site.start + site.layout.size) (put site y cells))) same.1
     ∙ ap (λ (l : List ℕ). take site.start cells ++ (x ++ l)) same.2
 
--- a region's own part put into it changes nothing
+-- putting a region's own part into it changes nothing
 put_self : (site : Site) (x cells : List ℕ) → part site cells ≡ x → cells ≡ put site x cells
 put_self site x cells is = in_three site cells ∙ ap (λ (l : List ℕ). put site l cells) is
 
--- ---- in turn, each with what it may count on
+-- ---- duties in turn, each with what it may rely on
 unfoldable pub Led : Setup → Site → List ℕ → List Duty → List ℕ → Type 0
 Led s site cells [] want = cells ≡ want
 Led s site cells (d ∷ rest) want = (mid : List ℕ) × Does s site cells d mid × IsReady s site cells d × Led s site mid rest want
@@ -80,26 +80,26 @@ led_ready s site [] cells want led = tt
 led_ready s site (d ∷ rest) cells want led =
     (led.2, λ x does. led_ready s site rest x want (subst (λ (c : List ℕ). Led s site c rest want) (does_same s site d cells led.0 x led.1 does) led.3))
 
--- two lists of duties, one after the other
+-- two lists of duties, one after the other, lead where both lead
 pub led_then : (s : Setup) (site : Site) (xs ys : List Duty) (cells mid want : List ℕ) → Led s site cells xs mid → Led s site mid ys want
     → Led s site cells (xs ++ ys) want
 unfolding Led
 led_then s site [] ys cells mid want one two = subst (λ (c : List ℕ). Led s site c ys want) (sym one) two
 led_then s site (d ∷ xs) ys cells mid want one two = (one.0, one.1, one.2, led_then s site xs ys one.0 mid want one.3 two)
 
--- one call that changes nothing
+-- a call that changes nothing leads from cells to the same cells
 pub led_quiet : (s : Setup) (site : Site) (r : Request) (cells : List ℕ) → Led s site cells (Quiet r ∷ []) cells
 unfolding Led
 led_quiet s site r cells = (cells, refl, tt, refl)
 
--- an action that the ideal device can do has what it may count on
+-- an action that the ideal device can do has what it may rely on
 ready_action : (s : Setup) (site : Site) (a : Action) (before x : List ℕ) → Acts site.layout s.algorithm.device.empty (part site before) a x
     → IsReady s site before (Acting a)
 unfolding Acts
 ready_action s site (ProgramPage k bytes) before x acts = acts.2
 ready_action s site a before x acts = tt
 
--- a plan's actions are such, with the other regions' cells as they were
+-- the actions of a plan lead there too, and leave the other regions' cells as they were
 pub led_actions : (s : Setup) (site : Site) (actions : List Action) (cells want : List ℕ) → IsAmong site cells
     → Leads site.layout s.algorithm.device.empty (part site cells) actions want
     → Led s site cells (map Acting actions) (put site want cells)
@@ -123,7 +123,7 @@ led_actions s site (a ∷ rest) cells want among leads =
       subst (λ (c : List ℕ). Led s site mid (map Acting rest) c) (put_again site want leads.0 cells among long) others,
     )
 
--- checks change nothing
+-- checks change no cell
 led_checks : (s : Setup) (site : Site) (held cells : List ℕ) (bs : List Bool) (k : ℕ) → Led s site cells (checks s site.layout held k bs) cells
 unfolding checks Led
 led_checks s site held cells [] k = refl
@@ -137,7 +137,7 @@ led_verifies s site held cells set = led_checks s site held cells set 0
 
 -- ---- the contents between two phases
 
--- actions in two lists have contents between them
+-- for actions in two lists there are contents between the lists
 pub leads_split : (l : Geometry) (empty : ℕ) (xs ys : List Action) (cells want : List ℕ) → Leads l empty cells (xs ++ ys) want
     → (mid : List ℕ) × Leads l empty cells xs mid × Leads l empty mid ys want
 unfolding Leads
@@ -146,7 +146,7 @@ leads_split l empty (a ∷ xs) ys cells want leads =
     let more : (mid : List ℕ) × Leads l empty leads.0 xs mid × Leads l empty mid ys want = leads_split l empty xs ys leads.0 want leads.2 in
     (more.0, (leads.0, leads.1, more.1), more.2)
 
--- actions leave as many cells
+-- actions keep the number of cells
 pub leads_length : (l : Geometry) (empty : ℕ) (actions : List Action) (cells want : List ℕ) → Leads l empty cells actions want → length want ≡ length cells
 unfolding Leads
 leads_length l empty [] cells want leads = ap (λ (c : List ℕ). length c) (sym leads)
@@ -164,7 +164,7 @@ byte_at cells i bytes less = bytes i 0 less
 bytes_from : (cells : List ℕ) → ((i : ℕ) → i < length cells → slice_index cells i < 2 ^ 8) → AreBytes cells
 bytes_from cells each = λ k d less. omega (arith, get_or_default_zero cells k d less, each k less)
 
--- an erased sector leaves bytes
+-- erasing a sector leaves a list of bytes
 sector_bytes : (l : Geometry) (empty k : ℕ) (before x : List ℕ) → empty < 2 ^ 8 → AreBytes before → Acts l empty before (EraseSector k) x → AreBytes x
 unfolding Acts
 sector_bytes l empty k before x small bytes acts = bytes_from x (λ i less. ⊎_elim
@@ -186,19 +186,19 @@ chip_bytes : (l : Geometry) (empty : ℕ) (cells want : List ℕ) → empty < 2 
 unfolding Leads Acts
 chip_bytes l empty cells want small leads = subst (λ (c : List ℕ). AreBytes c) leads.2 (bytes_from leads.0 (λ i less. omega (arith, small, leads.1.1 i less)))
 
--- erasures leave bytes
+-- erasing leaves a list of bytes
 pub erased_bytes : (l : Geometry) (empty : ℕ) (chip : Bool) (set : List Bool) (cells want : List ℕ) → empty < 2 ^ 8 → AreBytes cells
     → Leads l empty cells (cond chip (EraseChip ∷ []) (erasures 0 set)) want → AreBytes want
 erased_bytes l empty true set cells want small bytes leads = chip_bytes l empty cells want small leads
 erased_bytes l empty false set cells want small bytes leads = erasures_bytes l empty set 0 cells want small bytes leads
 
--- ---- bytes of a region among bytes
+-- ---- bytes of a region among all bytes
 
--- a place of a region is one of all cells
+-- a place of a region is a place of all cells
 part_at : (site : Site) (cells : List ℕ) (i : ℕ) → i < site.layout.size → slice_index (part site cells) i ≡ slice_index cells (site.start + i)
 part_at site cells i less = get_or-take site.layout.size (drop site.start cells) i 0 less ∙ get_or-drop site.start cells i 0
 
--- a part of bytes is bytes
+-- a part of a list of bytes is a list of bytes
 pub part_bytes : (site : Site) (cells : List ℕ) → IsAmong site cells → AreBytes cells → AreBytes (part site cells)
 part_bytes site cells among bytes = bytes_from (part site cells) (λ i less.
     let long = part_long site cells among in

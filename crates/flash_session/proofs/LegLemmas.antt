@@ -1,5 +1,4 @@
--- Region after region: where each algorithm keeps its duties, the script goes to the goal of all cells, and leaves what lies outside the
--- plans. `ServedLemmas` makes the clauses of `Session::go` of it.
+-- If each algorithm keeps its duties, the script leads region by region to the goal of all cells, and leaves what lies outside the plans.
 use Rattle.std.proofs.Common.{◌≡◌, ◌≤◌, ◌+◌, ◌-◌, ◌∙◌, ⊎_elim, ℕ, false, is_some, List, [], ◌∷◌, ◌++◌, length, take, drop, None, refl, sym, ap, subst}
 use Rattle.std.proofs.Common.{length-append, length-take, length-drop, arith}
 use Rattle.std.proofs.lemmas.List.{drop-drop, drop_all, take_all, take_at, append-nil}
@@ -41,13 +40,13 @@ planned_is x p l base goal one two =
     ap (λ (k : Geometry). leg x (region_work k base p.plan goal)) (sym one) ∙ ap (λ (c : ℕ). leg x (region_work p.layout c p.plan goal)) (sym two)
 
 module _ (b : BoardShown) (goal : List ℕ) where
-  -- a region is served on the cells that those before it leave, to its part of the goal
+  -- a region is served on the cells that the regions before it leave, and led to its part of the goal
   pub record IsLegServed (region : ℕ) (a : AlgorithmShown) (p : Planned) (cells : List ℕ) : Type 0 where
     pub served : IsRegionServed b region a b.weights p.plan (part (site_of b a region) goal) cells
     pub layout : p.layout ≡ device_of a
     pub base : p.base ≡ a.device.base
 
-  -- the cells after the regions from this number on
+  -- the cells once the regions from this number on hold their parts of the goal
   abbrev pub reached_by : ℕ → List AlgorithmShown → List Planned → List ℕ → List ℕ
   reached_by region (a ∷ rest) (p ∷ more) cells = reached_by (region + 1) rest more (put (site_of b a region) (part (site_of b a region) goal) cells)
   reached_by region algorithms plans cells = cells
@@ -84,7 +83,7 @@ module _ (b : BoardShown) (goal : List ℕ) where
         (λ y y_idle y_is y_board. legs_pass (region + 1) rest more (torn_rest torn) mid y served.1 covered.1 y_is (y_board ∙ board) y_idle one.same) in
         subst (λ (m : List Move). Passes P x m (reached_by (region + 1) rest more mid) old) (sym (legs_more l later torn)) all
 
-    -- the whole script goes to the cells that the regions reach in turn, with nothing changed outside their plans at any moment
+    -- the script leads to the cells that the regions reach in turn, and a stop at any moment leaves everything outside their plans
     module _ (a : AlgorithmShown) (rest : List AlgorithmShown) (p : Planned) (more : List Planned) (x : Stand) (served : AreServed 0 (a ∷ rest) (p ∷ more) old)
         (covered : AllCovered P 0 (a ∷ rest) (p ∷ more)) (same : x.world.cells ≡ old)
         (board : board_in x.world ≡ (b.ram_base, board_map b)) (idle : state_op x.world.state ≡ None) where
@@ -106,7 +105,7 @@ module _ (b : BoardShown) (goal : List ℕ) where
           subst (λ (m : List Move). Passes P x m left old) (sym (script_is l (legs_for b 1 rest goal more) torn)) all
 
       module _ (start now : BenchState) where
-        -- where all regions together reach the goal, a session ends so, but for a fault
+        -- if the regions together reach the goal, the session ends as reached, unless a fault comes
         pub follows_reaches : left ≡ goal → (e : SessionEnd) → Follows legs goal x e start now → is_device_fault (end_fault e) ≡ false
             → is_store_fault (end_fault e) ≡ false → IsReached e
         follows_reaches reaches (end.Reached r) follows other stored = tt
@@ -134,7 +133,7 @@ module _ (b : BoardShown) (goal : List ℕ) where
 
 -- ---- a region after another one
 
--- the cells of a later region stay when those of an earlier one are others
+-- the cells of a later region stay if those of an earlier one change
 part_behind : (first second : Site) (x cells : List ℕ) → IsAmong first cells → length x ≡ first.layout.size → first.start + first.layout.size ≤ second.start
     → part second (put first x cells) ≡ part second cells
 part_behind first second x cells among long behind =
@@ -170,7 +169,7 @@ later_served b region a plan goal cells first x among long bytes behind is =
 put_first : (n : ℕ) (x cells : List ℕ) → take 0 cells ++ (x ++ drop (0 + n) cells) ≡ x ++ drop n cells
 put_first n x cells = let z : 0 + n ≡ n = omega arith in ap (λ (k : ℕ). x ++ drop k cells) z
 
--- one region, of all cells
+-- when a board's one region holds the goal, the cells are the goal
 pub one_reached : (n : ℕ) (goal cells : List ℕ) → length goal ≡ n → length cells ≡ n → take 0 cells ++ (take n (drop 0 goal) ++ drop (0 + n) cells) ≡ goal
 one_reached n goal cells long held =
     put_first n (take n goal) cells ∙ ap (λ (l : List ℕ). take n goal ++ l) (drop_all n cells (omega (arith, held))) ∙ append-nil (take n goal)

@@ -1,4 +1,4 @@
--- What a session lends of a region is that of its survey.
+-- What a session lends about a region is that of its survey.
 use Rattle.std.proofs.Common.{◌≡◌, ◌<◌, ◌+◌, ◌∙◌, ℕ, zero, suc, List, [], ◌∷◌, map, length, get_or, Option, Some, IfSome, refl, sym, ap, subst, arith}
 use Rattle.board_file.specs.Shown.{shown as board_of}
 use Rattle.flm_descriptor.specs.Shown.{Shown as AlgorithmShown}
@@ -18,7 +18,7 @@ works_count [] start [] are = refl
 works_count (a ∷ rest) start (r ∷ more) are = ap suc (works_count rest (start + a.device.size) more are.1)
 works_count algorithms start works are = absurd are
 
--- a region of the board is one of the survey
+-- each region of the board has a plan in the survey
 pub region_inside : (j : Job) (w : Survey) (region : ℕ) → IsSurvey j w → region < length j.board.regions → region < length (regions_of w)
 region_inside j w region is less =
     omega (

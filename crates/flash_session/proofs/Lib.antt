@@ -1,4 +1,4 @@
--- Sessions: scripts as moves and turns, surveys, and that duties that are kept lead to the goal.
+-- Sessions: scripts as moves and turns, surveys, and algorithms that keep their duties and so lead to the goal.
 pub mod Runs
 pub mod Lists
 pub mod Playing

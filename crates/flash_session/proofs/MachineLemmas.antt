@@ -21,7 +21,7 @@ use Rattle.flash_session.specs.Turned.{IsExchanged, TurnsTo, Restarts}
 use Rattle.flash_session.specs.Turns.{SameTarget}
 use Rattle.flash_session.proofs.StepLemmas.{moved_region, setup_moved}
 
--- ---- what stays
+-- ---- what stays when the calls change
 
 pub same_here : (g : Player) → SameTarget g g
 same_here g = record { setups = λ r. refl; maps = λ r. refl; work = refl; window = refl }
@@ -35,7 +35,7 @@ same_then a b c one two = record {
       two.window ∙ one.window;
 }
 
--- what the calls of a region show, by what those at hand show
+-- what the calls of a region show stays, if the calls that moved last show the same as before
 of_same : {A : Type 0} (f : CallsIn → A) (r moved : RegionIndex) (here there : CallsIn) (other : Option CallsIn) → f there ≡ f here
     → f (of_region r moved there other) ≡ f (of_region r moved here other)
 of_same f First First here there other e = e
@@ -51,7 +51,7 @@ shown_same f a b shown moved other r =
     ap (λ (m : RegionIndex). f (of_region r m b.calls b.other)) moved ∙ ap (λ (o : Option CallsIn). f (of_region r a.moved b.calls o)) other
     ∙ of_same f r a.moved a.calls b.calls a.other shown
 
--- the calls at hand changed, and nothing else of its script
+-- only the calls that moved last changed, and not their setup or map; so the script stays
 pub same_by : (a b : Player) → setup_at b.calls ≡ setup_at a.calls → map_of b.calls ≡ map_of a.calls → b.moved ≡ a.moved → b.other ≡ a.other → b.work ≡ a.work
     → b.window ≡ a.window → SameTarget a b
 same_by a b setup map moved other work window = record {
@@ -85,9 +85,9 @@ legs_same a b same goal =
     ∙ ap (λ (x : Setup). legs a.work x (setup_on b Second)) (same.setups First)
     ∙ ap (λ (y : Setup). legs a.work (setup_on a First) y) (same.setups Second)
 
--- ---- twins
+-- ---- both regions share a RAM size, a base and a map
 
--- what is the same of both regions is so of any two
+-- what is equal for the two regions is equal for any two of them
 alike : {A : Type 0} (f : RegionIndex → A) → f Second ≡ f First → (p q : RegionIndex) → f p ≡ f q
 alike f same First First = refl
 alike f same Second Second = refl
@@ -97,18 +97,18 @@ alike f same First Second = sym same
 pub map_moved : (g : Player) (r : RegionIndex) → g.moved ≡ r → map_on g r ≡ map_of g.calls
 map_moved g r is = ap (λ (m : RegionIndex). map_of (of_region r m g.calls g.other)) is ∙ ap (λ (c : CallsIn). map_of c) (moved_region r g.calls g.other)
 
--- the RAM's size by the calls of a region, and by those at hand
+-- the RAM's size is the same in the calls of each region
 pub size_on : (g : Player) → AreTwins g → (r : RegionIndex) → (setup_on g r).ram_size ≡ (setup_now g).ram_size
 size_on g twins r = alike (λ (q : RegionIndex). (setup_on g q).ram_size) twins.size r g.moved ∙ ap (λ (s : Setup). s.ram_size) (setup_moved g g.moved refl)
 
--- a reset is the same by each setup with a RAM of one size
+-- a reset leaves the same with each setup that has a RAM of this size
 pub reset_same : (x y : Setup) (w : World) (operation : Option (ℕ × ℕ)) (torn : List ℕ) → x.ram_size ≡ y.ram_size
     → after_reset x w operation torn ≡ after_reset y w operation torn
 unfolding after_reset
 reset_same x y w operation torn same =
     ap (λ (n : ℕ). let r : World = record w { ram = replicate n 0; state = state_reset w.map; cells = broken_off operation torn w.cells } in r) same
 
--- a machine that starts anew stands where a reset left another one of the same board, over the cells that this left
+-- a restarted machine has the world that a reset left on another one of the same board, over the cells that the reset left
 fresh_is : (x y : Setup) (v w : World) (operation : Option (ℕ × ℕ)) (torn : List ℕ) → x.ram_size ≡ y.ram_size → v.ram_base ≡ w.ram_base
     → v.map ≡ w.map → v.cells ≡ (after_reset y w operation torn).cells
     → after_reset x v None [] ≡ after_reset y w operation torn
@@ -123,7 +123,7 @@ map_left : (x : Setup) (w : World) (operation : Option (ℕ × ℕ)) (torn : Lis
 unfolding after_reset
 map_left x w operation torn = refl
 
--- ---- the other machine
+-- ---- the machine of the other region
 
 other_region : (moved : RegionIndex) (here c : CallsIn) → of_region (other_than moved) moved here (Some c) ≡ c
 other_region First here c = refl
@@ -139,7 +139,7 @@ turned_same f First Second here c new e = e
 turned_same f Second First here c new e = e
 turned_same f Second Second here c new e = refl
 
--- where a board has both regions, it has each
+-- if a board has both regions, it has each
 any_there : (has : Bool) (r : RegionIndex) → IsTrue has → IsThere has r
 any_there has First both = tt
 any_there has Second both = both
@@ -213,7 +213,7 @@ pub turned_to : (o : Option CallsIn) (a : Player) (arena : List (List ℕ)) (b :
 turned_to None a arena b arena' r is turned twins other = absurd turned
 turned_to (Some c) a arena b arena' r is turned twins other = exchanged a arena b arena' c is twins turned r other
 
--- ---- it starts anew
+-- ---- a player that restarts
 
 module _ (a : Player) (mid : CallsIn) (setup : setup_at mid ≡ setup_at a.calls) (map : map_of mid ≡ map_of a.calls) where
   abbrev at_hand : Player
@@ -247,7 +247,7 @@ restarts_by a arena mid arena1 b arena2 setup map world turns =
       fits = subst (λ (w : ℕ). Fits b.calls arena2 w) (sym window_is) turns.fits;
     }
 
--- the other machine fits the same window
+-- the machine of the other region fits the same window
 pub other_fits : (g : Player) (arena : List (List ℕ)) (o : Option CallsIn) → g.other ≡ o → AreTwins g → Fits g.calls arena g.window
     → IfSome o (λ c. Fits c arena g.window)
 other_fits g arena None is twins fits = tt

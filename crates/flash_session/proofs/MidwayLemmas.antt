@@ -16,7 +16,7 @@ use Rattle.target_core.proofs.RunLemmas.{run_last_from}
 use Rattle.target_core.proofs.SliceLemmas.{end_add, whole_add}
 use Rattle.flash_session.specs.Midway.{Midway}
 
--- before the first step
+-- a run before its first step
 pub midway_first : (return_at fuel : ℕ) (first here : Point) → here ≡ first → Midway return_at fuel first fuel here
 midway_first return_at fuel first here same = record {
   made = 0;
@@ -26,7 +26,7 @@ midway_first return_at fuel first here same = record {
       ∙ sym (whole_none first);
 }
 
--- no end comes before the steps of both
+-- if no end holds in the first steps or in the steps after them, none holds in all of them
 goes_add : (return_at fuel : ℕ) (p : Point) (m k : ℕ) → m ≤ fuel → GoesTo return_at fuel p m → GoesTo return_at (fuel - m) (whole p m) k
     → GoesTo return_at fuel p (m + k)
 goes_add return_at fuel p m k le one two j below = ⊎_elim
@@ -44,7 +44,7 @@ module _ (return_at fuel : ℕ) (first : Point) (rest : ℕ) (here : Point) (way
   le : way.made ≤ fuel
   le = omega (arith, way.fuel_is)
 
-  -- what a slice makes of the run, that ended with more to do
+  -- a slice that ended with more to do leaves the run after more whole steps
   module _ (steps less : ℕ) (last : Point) (start end : BenchState) (one : SliceFrom return_at here start rest less steps slice.More last end)
       (within : less ≤ rest) where
     abbrev more : ℕ
@@ -76,7 +76,7 @@ module _ (return_at fuel : ℕ) (first : Point) (rest : ℕ) (here : Point) (way
           left = subst (λ (p : Point). LeftAt p c) (ap (λ (p : Point). point p at.number) way.is ∙ sym (point_add first way.made at.number)) at.left;
         }) one.runs.moments
 
-  -- a slice in which the run ended
+  -- a slice in which the run ended gives the end of the run
   module _ (steps less : ℕ) (e : RunEnd) (last : Point) (start end : BenchState) (one : SliceFrom return_at here start rest less steps (slice.Ended e) last end)
       (now : (c : List ℕ) → left (cells_half start) c → LeftAt here c) where
     pub ends_slice : RunGives return_at fuel first start e last end

@@ -1,5 +1,5 @@
--- How a script ends on a bench, and that it ends so once what broken-off operations leave is given.
--- The law `moves_have_one_end` is the last.
+-- How a script ends on a bench: in just one way, once the bytes that broken-off operations leave are given.
+-- The last lemma is the law `moves_have_one_end`.
 use Rattle.std.proofs.Common.{◌≡◌, ◌<◌, ◌≤◌, ◌∙◌, ⊎_elim, ℕ, List, get_or, Result, Ok, Err, refl, sym, ap, subst, arith}
 use Rattle.std.proofs.lemmas.List.{get_or-take}
 use Rattle.std.proofs.lemmas.Bool.{cases_lt}
@@ -12,12 +12,12 @@ use Rattle.flash_session.specs.Differs.{DiffersFirst}
 use Rattle.flash_session.specs.Moves.{Move, Stand, Failure, failure, run}
 use Rattle.flash_session.specs.Outcome.{GoTo, FailAt, IsEnd}
 
--- ---- one outcome
+-- ---- there is one outcome
 
 same_ok : (r : Result Stand Failure) (a b : Stand) → r ≡ Ok a → r ≡ Ok b → a ≡ b
 same_ok r a b one two = cc
 
--- before the first difference of one kind there is none of another
+-- a first difference comes no later than any other first difference
 one_place : (goal cells : List ℕ) (d e : Difference) → DiffersFirst goal cells d → DiffersFirst goal cells e → e.at ≤ d.at
 one_place goal cells d e one two = ⊎_elim
     (λ (less : d.at < e.at).
@@ -53,7 +53,7 @@ one_failure a moves n m x y e f c d one two =
     let same : failure n x e one.at ≡ failure m y f two.at = same_err (run a moves) _ _ one.ran two.ran in
     (ap (λ (g : Failure). end.CallFailed g.number g.call g.end) same, sym one.leaves ∙ ap (λ (g : Failure). g.world.cells) same ∙ two.leaves)
 
--- once it is given what broken-off operations leave, moves have one end and leave one contents
+-- moves have one end and leave one list of cells, once the bytes that broken-off operations leave are given
 pub one_outcome : (a : Stand) (moves : List Move) (goal : List ℕ) (e f : SessionEnd) (c d : List ℕ) → IsEnd a moves goal e c → IsEnd a moves goal f d → (e ≡ f)
     × (c ≡ d)
 one_outcome a moves goal (end.Reached r) (end.Reached s) c d one two = (refl, one_cells a moves c d one.0 two.0)

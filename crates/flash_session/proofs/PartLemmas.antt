@@ -1,5 +1,5 @@
--- A region's part of all cells: bytes of it are bytes of all cells, and the parts of all regions are all of them.
--- Surveys and work are of regions, and the goal and the comparison of all cells: so each is a part of the other.
+-- A region's part of all cells: its bytes are bytes of all cells, and the parts of all regions together are all cells.
+-- Surveys and plans are made for each region; the goal and the comparison are for all cells. These lemmas join the two.
 use Rattle.std.proofs.Common.{◌≡◌, ◌≤◌, ◌+◌, ◌-◌, ◌++◌, ◌∙◌, ℕ, List, length, take, drop, sym, ap, arith}
 use Rattle.std.proofs.lemmas.List.{drop-drop, drop-take, take-take, take-append-drop, take_all}
 
@@ -11,7 +11,7 @@ part_at start size at n goal inside =
     ∙ sym (take-take n rest (drop at (drop start goal)) (omega (arith, inside)))
     ∙ ap (λ (l : List ℕ). take n l) (sym (drop-take at rest (drop start goal)) ∙ ap (λ (k : ℕ). drop at (take k (drop start goal))) all)
 
--- two parts that are all of them
+-- two parts make all cells
 pub two_parts : (first second : ℕ) (cells : List ℕ) → length cells ≡ first + second → cells ≡ take first cells ++ take second (drop first cells)
 two_parts first second cells long =
     sym (take-append-drop first cells) ∙ ap (λ (l : List ℕ). take first cells ++ l)

@@ -1,5 +1,5 @@
--- Moves that go to their end, and meanwhile change no cell but at some places, whatever a stop of the power leaves.
--- `Serving` has it of the phases of a region, and `LegLemmas` of a whole script.
+-- Moves that are all made, and change only cells at some places, whatever a stop of the power leaves.
+-- `Serving` shows it for the phases of a region, and `LegLemmas` for a whole script.
 use Rattle.std.proofs.Common.{◌≡◌, ◌<◌, ◌≤◌, ◌+◌, ◌-◌, ◌∙◌, ⊎_elim, ℕ, List, [], ◌∷◌, ◌++◌, map, length, replicate, get_or, Option, Some, None, Result, Ok}
 use Rattle.std.proofs.Common.{refl, sym, ap, subst, arith}
 use Rattle.std.proofs.lemmas.List.{get_or-take, get_or-drop, map-append}
@@ -30,9 +30,9 @@ use Rattle.flash_session.proofs.Lists.{phase_none, phase_is}
 use Rattle.flash_session.proofs.Members.{move_of}
 use Rattle.flash_session.proofs.Leading.{IsAmong, Led, led_then, led_quiet}
 
--- ---- contents that are the same but at some places
+-- ---- contents that are equal except at some places
 
--- a range of cells has no other places
+-- P holds of all places of a range of cells
 abbrev pub PlaceIn : (ℕ → Type 0) → Option (ℕ × ℕ) → Type 0
 PlaceIn P None = Unit {0}
 PlaceIn P (Some place) = (i : ℕ) → place.0 ≤ i → i < place.0 + place.1 → P i
@@ -64,12 +64,12 @@ outside_here (Some place) x = (refl, refl, refl)
 
 -- ---- moves
 
--- a stop within these moves leaves all but these places as in the old contents
+-- a stop within these moves leaves the cells outside these places as in the old contents
 abbrev pub Local : (ℕ → Type 0) → Stand → List Move → List ℕ → Type 0
 Local P a moves old = (w : World) → IsWithin a moves w → (c : List ℕ) → StopLeaves w c → SameBut P old c
 
--- The moves go to their end, where the cells are these and no operation is open. Neither there nor at a stop does a cell differ from the old
--- contents but at these places.
+-- The moves are all made, and then the cells are these and no operation is open. Neither then nor after a stop does a cell outside these places differ from the
+-- old contents.
 pub record Passes (P : ℕ → Type 0) (a : Stand) (moves : List Move) (cells old : List ℕ) : Type 0 where
   pub last : Stand
   pub ran : run a moves ≡ Ok last
@@ -81,7 +81,7 @@ pub record Passes (P : ℕ → Type 0) (a : Stand) (moves : List Move) (cells ol
 
 -- ---- a reset and a load with no operation open, and a phase
 
--- the target of a board as after a reset over these cells, and with what then is loaded
+-- the target of a board after a reset over these cells, and with the algorithm loaded
 abbrev blank : Setup → ℕ → FlashMap → List ℕ → World
 blank s base map cells = record { ram_base = base; ram = replicate s.ram_size 0; map = map; state = state_reset map; cells = cells }
 
@@ -101,7 +101,7 @@ reset_is s w torn idle =
 abbrev pub begun : Setup → World → World
 begun s w = record { ram_base = w.ram_base; ram = loaded s; map = w.map; state = state_reset w.map; cells = w.cells }
 
--- Init, the calls, UnInit
+-- a phase: Init, the calls, UnInit
 abbrev pub whole_phase : ℕ → List Duty → List Duty
 whole_phase kind works = Quiet (asked (Init kind) []) ∷ (works ++ Quiet (asked (UnInit kind) []) ∷ [])
 
@@ -133,7 +133,7 @@ module _ (P : ℕ → Type 0) (old : List ℕ) where
   local_then a b xs ys ran one two w at c left = ⊎_elim (λ (in_first : IsWithin a xs w). one w in_first c left)
       (λ (in_second : IsWithin b ys w). two w in_second c left) (within_split a b xs ys w ran at)
 
-  -- moves that went to a stand, and those that pass from there
+  -- moves that were made up to a target, followed by moves that pass from there
   passes_on : (a b : Stand) (xs ys : List Move) (cells : List ℕ) → run a xs ≡ Ok b → board_in b.world ≡ board_in a.world → Local P a xs old
       → Passes P b ys cells old → Passes P a (xs ++ ys) cells old
   passes_on a b xs ys cells ran board one two = record {
@@ -188,7 +188,7 @@ module _ (P : ℕ → Type 0) (old : List ℕ) where
       but_then P old a.world.cells last.cells start (but_outside P (place_of site d) a.world.cells last.cells covers
       (kept_local s site a.world d good long keeps last.cells on))
 
-  -- calls in turn that keep their duties, which lead the ideal device to some contents
+  -- calls in turn that keep their duties pass, where the ideal device leads to some contents
   pub passes_duties : (s : Setup) (site : Site) (good : IsGeometry site.layout) (ds : List Duty) (a : Stand) (want : List ℕ) → IsAmong site a.world.cells
       → state_op a.world.state ≡ None → KeepAll s site a.world ds → Led s site a.world.cells ds want
       → PlacesIn P site ds → SameBut P old a.world.cells → Passes P a (map (move_of s site.layout) ds) want old

@@ -1,4 +1,4 @@
--- Reads one after the other, and windows of cells and goal. Surveys read cells and goal in windows, and go on by them.
+-- Reads one after another, and windows of cells and of the goal. Surveys read cells and goal in windows.
 use Rattle.std.proofs.Common.{◌≡◌, ◌≤◌, ◌+◌, ◌-◌, ◌++◌, ◌∙◌, ℕ, Bool, true, List, length, take, drop, refl, subst, arith}
 use Rattle.std.proofs.Common.{length-append}
 use Rattle.std.proofs.lemmas.List.{length-take, length-drop}
@@ -29,7 +29,7 @@ read_then one two = record {
   };
 }
 
--- the file was read
+-- a bench on which only the file was read
 pub read_file : (tells : Bool) (s t : BenchState) → OnlyReads tells s t → IsRead tells s t
 read_file tells s t reads = record {
   file = record { file = reads.file; moments = reads.moments };
@@ -42,14 +42,14 @@ read_file tells s t reads = record {
   };
 }
 
--- the cells were read
+-- a bench on which only the cells were read
 pub read_cells : (tells : Bool) (s t : BenchState) → OnlyReadsCells tells s t → IsRead tells s t
 read_cells tells s t reads = record {
   file = record { file = λ told. reads.file.file; moments = stays_adds_nothing reads.file.half };
   cells = record { cells = reads.cells; operation = reads.operation; count = reads.count; moments = reads.moments };
 }
 
--- no stop meanwhile leaves another pair
+-- while a bench is only read, a stop leaves no other pair of file and cells
 pub read_pairs : {tells : Bool} {s t : BenchState} → IsRead tells s t → PairsLeave s t (Left s)
 read_pairs {tells} {s} {t} reads =
     pairs_of (left (file_half s)) (left (cells_half s)) (Left s) reads.file.moments reads.cells.moments (λ f x of_file of_cells. (of_file, of_cells))
@@ -58,7 +58,7 @@ read_pairs {tells} {s} {t} reads =
 pub one_since : (a b d : ℕ) → b ≡ a → b ≤ d → Rose b d → IsCounted a d true
 one_since a b d same later rose = subst (λ (n : ℕ). IsCounted n d true) same (one_counted b d later rose)
 
--- the cells alone
+-- a read that doesn't touch the file reads only the cells
 pub only_cells : {tells : Bool} {s t : BenchState} → IsRead tells s t → FileStays s t → OnlyReadsCells tells s t
 only_cells reads file = record {
   cells = reads.cells.cells;
@@ -69,7 +69,7 @@ only_cells reads file = record {
       file;
 }
 
--- a window whose front was filled is as long as it was
+-- a window keeps its length when its front is filled
 pub kept_room : (n : ℕ) (window front : List ℕ) → length window ≡ 4096 → n ≤ 4096 → length front ≡ length (take n window)
     → length (front ++ drop n window) ≡ 4096
 kept_room n window front room le long = omega (arith, length-append front (drop n window), length-drop n window, length-take n window, room, le, long)

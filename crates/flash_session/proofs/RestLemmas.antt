@@ -16,7 +16,7 @@ use Rattle.flash_session.specs.declared.cursor.Cursor.TheVariants as at
 use Rattle.flash_session.specs.Rest.{each_from, from_on, calls_from, phase_calls, torn_of, with_torn, after_phase, from_phase, closing, Legs}
 use Rattle.flash_session.specs.Rest.{all_legs, leg_at, torn_at, last_reset, second_rest, later_than, rest_of, after_region, after}
 
--- ---- numbers from one on
+-- ---- the numbers from one on
 
 from_nothing : (f : ℕ → List Move) (k : ℕ) → each_from f k 0 ≡ []
 unfolding each_from
@@ -82,7 +82,7 @@ opened s kind torn calls later some =
     ap (λ (l : List Move). l ++ later) (phase_is s kind torn calls some)
     ∙ ap (λ (l : List Move). Reset s torn ∷ Load s ∷ Make s (call.Init kind) [] ∷ l) (append_assoc calls (Make s (call.UnInit kind) [] ∷ []) later)
 
--- a phase that has calls begins with a reset and a load, whatever the reset leaves
+-- a phase that has calls begins with a reset and a load, whatever cells the reset leaves
 pub begin_is : (l : Legs) (r : RegionIndex) (p : Phase) → (phase_calls (leg_at l r).setup (leg_at l r).region_work p ≡ [] → ⊥) → (b : Broken) (torn : List ℕ)
     → rest_of l (at.Begin r p) (with_torn r p torn b) ≡ Reset (leg_at l r).setup torn ∷ Load (leg_at l r).setup ∷ rest_of l (at.Init r p) b
 begin_is l First stage.Erase some b torn =
@@ -104,14 +104,14 @@ begin_is l Second stage.Verify some b torn =
     opened (leg_at l Second).setup 3 torn (phase_calls (leg_at l Second).setup (leg_at l Second).region_work stage.Verify)
     (after_phase (leg_at l Second).setup (leg_at l Second).region_work stage.Verify (torn_at Second b) (later_than l Second b)) some
 
--- one that has none is left out
+-- a phase without calls is left out
 pub skip_is : (l : Legs) (r : RegionIndex) (p : Phase) → phase_calls (leg_at l r).setup (leg_at l r).region_work p ≡ [] → (b : Broken)
     → rest_of l (at.Begin r p) b ≡ after_phase (leg_at l r).setup (leg_at l r).region_work p (torn_at r b) (later_than l r b)
 skip_is l r p nothing b =
     ap (λ (m : List Move). m ++ after_phase (leg_at l r).setup (leg_at l r).region_work p (torn_at r b) (later_than l r b))
     (phase_none (leg_at l r).setup (kind_of p) (torn_of p (torn_at r b)) (phase_calls (leg_at l r).setup (leg_at l r).region_work p) nothing)
 
--- what follows the first region is the second one, where there is one
+-- the second region, if there is one, follows the first
 behind_first : (first : Leg) (second : Option Leg) (b : Broken) → let l : Legs = record { first = first; second = second } in
     later_than l First b ≡ rest_of l (after_region (is_some second) First) b
 behind_first first None b = refl
@@ -127,7 +127,7 @@ after_is l r stage.Erase b = refl
 after_is l r stage.Program b = refl
 after_is l r stage.Verify b = behind_is l r b
 
--- after its Init come its calls, and after them its UnInit
+-- after the Init of a phase come its calls, and then its UnInit
 pub init_is : (l : Legs) (r : RegionIndex) (p : Phase) (b : Broken) → rest_of l (at.Init r p) b ≡ Make (leg_at l r).setup (call.Init (kind_of p)) [] ∷ rest_of l
     (at.Calls r p 0) b
 init_is l r p b =
@@ -146,7 +146,7 @@ uninit_is l r p k nothing b =
     ap (λ (n : List Move). n ++ closing (leg_at l r).setup (leg_at l r).region_work p (torn_at r b) (later_than l r b)) nothing
     ∙ ap (λ (n : List Move). Make (leg_at l r).setup (call.UnInit (kind_of p)) [] ∷ n) (after_is l r p b)
 
--- ---- a script is the rest of it from its first phase on
+-- ---- a script is the moves left from its first phase on
 
 three_of : (s : Setup) (t : RegionWork) (b : Torn) (later : List Move) → phases s t b ++ later ≡ from_phase s t stage.Erase b later
 unfolding phases

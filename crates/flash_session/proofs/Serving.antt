@@ -1,5 +1,5 @@
--- Where an algorithm keeps its duties for a region, the phases of its plan lead to the region's goal, and leave what lies outside the plan.
--- The clauses `reaches` and `local` of `Session::go` rest on it: the goal is reached, and nothing else is changed.
+-- If an algorithm keeps its duties for a region, the phases of its plan lead to the region's goal, and leave what lies outside the plan.
+-- The clauses `reaches` and `local` of `Session::go` rest on this: the goal is reached, and nothing else is changed.
 use Rattle.std.proofs.Common.{◌≡◌, ◌<◌, ◌≤◌, ◌+◌, ◌-◌, ◌^◌, ◌∙◌, ⊎_elim, inl, inr, ℕ, suc, Bool, true, false, cond, is_some, List, [], ◌∷◌, ◌++◌, map, length}
 use Rattle.std.proofs.Common.{get_or, None, refl, sym, ap, subst, arith}
 use Rattle.std.proofs.lemmas.Bool.{cases_lt}
@@ -34,13 +34,13 @@ use Rattle.flash_session.proofs.Passing.{PlacesIn, Passes, passes_none, passes_t
 
 -- ---- the sets of a plan
 
--- whichever of two plans is taken has a truth value for each sector
+-- either of two plans has a truth value for each sector
 either_sectors : (l : Geometry) (d : Bool) (x y : Chosen) → length x.sectors ≡ length l.sectors → length y.sectors ≡ length l.sectors
     → length (cond d x y).sectors ≡ length l.sectors
 either_sectors l true x y one two = one
 either_sectors l false x y one two = two
 
--- either choice between two plans has a truth value for each page
+-- either of two plans has a truth value for each page
 either_pages : (l : Geometry) (d : Bool) (x y : Chosen) → length x.pages ≡ length l.pages → length y.pages ≡ length l.pages
     → length (cond d x y).pages ≡ length l.pages
 either_pages l true x y one two = one
@@ -62,30 +62,30 @@ chosen_pages l w has_chip empty old want =
     either_pages l (takes_chip l w has_chip empty old want) (by_chip l w empty old want) (by_sectors l w empty old want)
     (length-map-range_with_len (is_wanted l empty want) 0 (length l.pages)) (length-map-range_with_len (must_program l empty old want) 0 (length l.pages))
 
--- a plan that erases the chip does so in its list of actions
+-- the actions of a plan that erases the chip erase the chip
 chip_first : (l : Geometry) (want : List ℕ) (plan : Chosen) → plan.chip ≡ true → erases_chip (actions_of l want plan) ≡ true
 unfolding erases_chip actions_of
 chip_first l want plan is = rw is refl
 
--- ---- where a phase works
+-- ---- the cells that a phase changes
 
--- a number in a set is one of the set's length
+-- a member of a set is a number below the set's length
 below_length : (bs : List Bool) (k : ℕ) → get_or bs k false ≡ true → k < length bs
 below_length bs k is = ⊎_elim
     (λ (less : k < length bs). less)
     (λ (le : length bs ≤ k). let none : false ≡ true = sym (get_or_past bs k false le) ∙ is in absurd cc)
     (cases_lt k (length bs))
 
--- these places are all of those of a plan of a region
+-- the set P contains all places of the plan of a region
 abbrev pub Covers : (ℕ → Type 0) → Site → Chosen → Type 0
 Covers P site plan = (i : ℕ) → IsInRegionPlan site.start site.layout plan i → P i
 
--- a place in the range of a duty, counted from where the region begins
+-- a place in the range of a duty, counted from the region's first cell
 in_span : (site : Site) (r : Range) (i : ℕ) → (span site r).0 ≤ i → i < (span site r).0 + (span site r).1 → In (i - site.start) r
     × (i ≡ site.start + (i - site.start))
 in_span site r i from below = ((omega (arith, from), omega (arith, from, below)), omega (arith, from))
 
--- the operations of erasures open within P, where the sectors of the set lie within it
+-- erasing opens operations only at places in P, if P contains the sectors of the set
 sector_places : (P : ℕ → Type 0) (site : Site) (bs : List Bool) (k : ℕ)
     → ((j : ℕ) → get_or bs j false ≡ true → (i : ℕ) → In i (range_at site.layout.sectors (k + j)) → P (site.start + i))
     → PlacesIn P site (map Acting (erasures k bs))
@@ -102,7 +102,7 @@ sector_places P site (true ∷ bs) k all = (
 sector_places P site (false ∷ bs) k all = sector_places P site bs (k + 1)
     (λ j is i h. all (suc j) is i (let z : k + 1 + j ≡ k + suc j = omega arith in subst (λ (n : ℕ). In i (range_at site.layout.sectors n)) z h))
 
--- those of writes likewise, with the pages
+-- programming opens operations only at places in P, if P contains the pages of the set
 page_places : (P : ℕ → Type 0) (site : Site) (goal : List ℕ) (bs : List Bool) (k : ℕ)
     → ((j : ℕ) → get_or bs j false ≡ true → (i : ℕ) → In i (range_at site.layout.pages (k + j)) → P (site.start + i))
     → PlacesIn P site (map Acting (writes site.layout goal k bs))
@@ -126,7 +126,7 @@ check_places P s site held [] k = tt
 check_places P s site held (true ∷ bs) k = (tt, check_places P s site held bs (k + 1))
 check_places P s site held (false ∷ bs) k = check_places P s site held bs (k + 1)
 
--- a place of a sector or page that is in the plan
+-- the cells of a sector that the plan erases are places of the plan
 in_sector : (P : ℕ → Type 0) (site : Site) (plan : Chosen) → IsGeometry site.layout → length plan.sectors ≡ length site.layout.sectors → Covers P site plan
     → (k : ℕ) → get_or plan.sectors k false ≡ true → (i : ℕ) → In i (range_at site.layout.sectors k) → P (site.start + i)
 in_sector P site plan good long covers k is i h =
@@ -140,11 +140,11 @@ in_page P site plan good long covers k is i h =
     let less : k < length site.layout.pages = omega (arith, below_length plan.pages k is, long) in
     covers (site.start + i) (record { at = i; is = refl; inside = omega (arith, h.1, good.pages_part.below k less); planned = inr (inr (k, is, h)) })
 
--- a set is counted from number 0 on
+-- the range of number `0 + k` is that of number `k`
 from_zero : (rs : List Range) (i k : ℕ) → In i (range_at rs (0 + k)) → In i (range_at rs k)
 from_zero rs i k h = let z : 0 + k ≡ k = omega arith in subst (λ (n : ℕ). In i (range_at rs n)) z h
 
--- the first phase of a plan opens its operations at places of the plan alone
+-- the erase phase opens only places of the plan
 erasing_places : (P : ℕ → Type 0) (s : Setup) (site : Site) (plan : Chosen) (held : List ℕ) (chip : Bool) → IsGeometry site.layout
     → length plan.sectors ≡ length site.layout.sectors → Covers P site plan
     → (chip ≡ true → plan.chip ≡ true) → PlacesIn P site (works_of s site.layout held (cond chip ErasesChip (Erases plan.sectors)))
@@ -171,7 +171,7 @@ verifying_places P s site held set = check_places P s site held set 0
 
 -- ---- what the phases of a plan lead to
 
--- the first phase leads from the cells to those with the erased contents in the region
+-- the erase phase leads to cells with the erased contents in the region
 erasing_led : (s : Setup) (site : Site) (cells mid : List ℕ) (chip : Bool) (set : List Bool) → IsAmong site cells
     → Leads site.layout s.algorithm.device.empty (part site cells) (cond chip (act.EraseChip ∷ []) (erasures 0 set)) mid
     → Led s site cells (works_of s site.layout (part site cells) (cond chip ErasesChip (Erases set))) (put site mid cells)
@@ -192,18 +192,18 @@ split_actions : (l : Geometry) (goal : List ℕ) (plan : Chosen)
 unfolding actions_of
 split_actions l goal plan = refl
 
--- the first phase asks for nothing that the algorithm has no entry for
+-- the erase phase calls no function that the algorithm lacks
 may_erase : (s : Setup) (l : Geometry) (chip : Bool) (set : List Bool) → (chip ≡ true → is_some s.algorithm.entries.erase_chip ≡ true)
     → length set ≡ length l.sectors → MayAsk s l (cond chip ErasesChip (Erases set))
 may_erase s l true set entry long = entry refl
 may_erase s l false set entry long = long
 
--- of the chip or of sectors, the first phase is of kind 1
+-- the erase phase is of kind 1, for the chip as for sectors
 erasing_kind : (chip : Bool) (set : List Bool) → kind_of (cond chip ErasesChip (Erases set)) ≡ 1
 erasing_kind true set = refl
 erasing_kind false set = refl
 
--- what a region is to go through, phase by phase
+-- the moves of a region, phase by phase
 phases_are : (s : Setup) (t : RegionWork) (b : Torn) → phases s t b ≡ phase s 1 b.erase (erase_moves s t.planned) ++
     (phase s 2 b.program (page_moves false s t) ++ phase s 3 b.verify (verify_moves s t))
 unfolding phases
@@ -211,7 +211,7 @@ phases_are s t b = refl
 
 -- ---- a region's plan, where its algorithm keeps its duties on the cells
 
--- the cells are those before the region's first call, and the goal is the region's
+-- the cells are those before the region's first call, and the goal is the region's part
 pub record IsRegionServed (b : BoardShown) (region : ℕ) (a : AlgorithmShown) (w : Weights) (plan : Chosen) (goal cells : List ℕ) : Type 0 where
   pub serves : Serves b a region
   pub lawful : IsGeometry (device_of a)
@@ -237,7 +237,7 @@ module _ (P : ℕ → Type 0) (old : List ℕ) (b : BoardShown) (region : ℕ) (
   begun_is x same = ap (λ (p : ℕ × FlashMap). let y : World =
       record { ram_base = p.0; ram = loaded (setup_of a b); map = p.1; state = state_reset p.1; cells = x.cells } in y) same
 
-  -- a phase over these cells
+  -- a phase of the region over these cells
   work_here : (kind : Phase) (x : Stand) (torn : List ℕ) (moves : List Move) (want : List ℕ) → board_in x.world ≡ (b.ram_base, board_map b)
       → state_op x.world.state ≡ None
       → moves ≡ map (move_of (setup_of a b) (device_of a)) (works_of (setup_of a b) (device_of a) (part here x.world.cells) kind)
@@ -285,15 +285,15 @@ module _ (P : ℕ → Type 0) (old : List ℕ) (b : BoardShown) (region : ℕ) (
   abbrev own_work : RegionWork
   own_work = region_work (device_of a) a.device.base plan goal
 
-  -- the cells that the script is to reach in this region
+  -- the cells that the script is to reach with this region
   abbrev reached : List ℕ
   reached = put here goal cells
 
-  -- they are as many
+  -- those cells are as many as before
   reached_long : length reached ≡ length cells
   reached_long = put_long here goal cells is.among is.goal_size
 
-  -- the third phase, where the algorithm can verify, changes nothing
+  -- the verify phase, if the algorithm can verify, changes no cell
   check_passes : (d : Bool) (x : Stand) (torn : List ℕ) → d ≡ has_verify (setup_of a b) → x.world.cells ≡ reached → board_in x.world ≡ (b.ram_base, board_map b)
       → state_op x.world.state ≡ None → SameBut P old reached
       → Passes P x (phase (setup_of a b) 3 torn (cond d (page_moves true (setup_of a b) own_work) [])) reached old
@@ -306,7 +306,7 @@ module _ (P : ℕ → Type 0) (old : List ℕ) (b : BoardShown) (region : ℕ) (
   check_passes false x torn entry same board idle start = passes_none P old x (phase (setup_of a b) 3 torn []) reached
       (phase_none (setup_of a b) 3 torn [] refl) idle same start
 
-  -- the phases of the plan from these cells on, which leave the cells of the other regions
+  -- the phases of the plan from these cells on leave the cells of the other regions
   pub phases_pass : (x : Stand) (torn : Torn) → x.world.cells ≡ cells → board_in x.world ≡ (b.ram_base, board_map b) → state_op x.world.state ≡ None
       → SameBut P old cells
       → Passes P x (phases (setup_of a b) own_work torn) reached old

@@ -26,9 +26,9 @@ use Rattle.flash_session.proofs.ItemLemmas.{no_bytes}
 use Rattle.flash_session.proofs.PartLemmas.{part_at}
 use Rattle.flash_session.proofs.RestLemmas.{calls_all, begin_is, skip_is, behind_is, init_is, call_is, uninit_is}
 
--- ---- what is done in a region
+-- ---- what is to be done in a region
 
--- the region that moved last has the calls at hand
+-- the calls of the region that moved last
 pub moved_region : (moved : RegionIndex) (here : CallsIn) (other : Option CallsIn) → of_region moved moved here other ≡ here
 moved_region First here other = refl
 moved_region Second here other = refl
@@ -89,7 +89,7 @@ module _ (g : Player) where
       (calls_on_phase p (setup_on g r) (region_in g.work r) goal (item.index + 1))
       (sym (is.moves goal) ∙ calls_all (setup_on g r) (work_in (region_in g.work r) goal) p ∙ none))
 
-  -- ---- the first phase that has some
+  -- ---- the first phase that has calls
 
   pub phase_here : (r : RegionIndex) (p : Phase) → has_phase g r p true → IsPhaseFrom g r p (Some p)
   phase_here r p some = (λ goal b. refl, some)

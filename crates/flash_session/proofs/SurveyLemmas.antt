@@ -1,4 +1,4 @@
--- A survey of a region window by window. `survey_windows` feeds the plan window by window, and the surveys of a job and of `plan` end so.
+-- A survey of a region, window by window. `survey_windows` feeds the plan so, and the surveys of a job and of `plan` end with it.
 use Rattle.std.proofs.Common.{◌≡◌, ◌<◌, ◌≤◌, ◌+◌, ◌-◌, ◌++◌, ◌∙◌, ◌^◌, ℕ, Bool, IsTrue, is_some, All, List, [], length, take, drop, OnOk, Result, Ok, Err, refl}
 use Rattle.std.proofs.Common.{sym, ap, subst, arith, length-append}
 use Rattle.std.proofs.Math.Seq.{take-add}
@@ -26,13 +26,13 @@ use Rattle.flash_session.proofs.GoalLemmas.{over_append}
 abbrev pub AreBytes : List ℕ → Type 0
 AreBytes cells = All (λ v. v < 2 ^ 8) cells
 
--- a bench that was only read gives the goal as before
+-- a bench that was only read gives the same goal
 pub source_still : (tells : Bool) (source : Source) (a b : BenchState) → (IsTrue tells → b.file ≡ a.file) → b.cell_count ≡ a.cell_count
     → IsSource tells source a → IsSource tells source b
 source_still tells (from.Job job goal) a b file count is = (is.0 ∙ sym count, λ told. subst (λ (f : List ℕ). StandsFor job.now f) (sym (file told)) (is.1 told))
 source_still tells (from.Cells image) a b file count is = tt
 
--- bytes that are wanted of the same cells of the same file
+-- the bytes wanted of the same cells, with the same file, are the same
 pub wanted_still : (tells : Bool) (source : Source) (place address : ℕ) (a b cells wanted : List ℕ) → (IsTrue tells → a ≡ b)
     → AreWanted tells source place address a cells wanted
     → AreWanted tells source place address b cells wanted
@@ -40,7 +40,7 @@ wanted_still tells (from.Job job goal) place address a b cells wanted same is = 
     is told ∙ ap (λ (f : List ℕ). take (length cells) (drop place (goal_in job.now goal f))) (same told)
 wanted_still tells (from.Cells image) place address a b cells wanted same is = is
 
--- the goal of a job that was read
+-- the goal of a job that was read from the job file
 pub job_wanted : {T E : Type 0} (r : Result T E) (tells : Bool) (source : Source) (job : Bor Job) (goal : Goal) (place address n : ℕ)
     (file cells wanted : List ℕ) → source ≡ from.Job job goal → n ≡ length cells
     → (IsTrue tells → OnOk r (wanted ≡ take n (drop place (goal_in job.now goal file)))) → OnOk r (AreWanted tells source place address file cells wanted)
@@ -72,7 +72,7 @@ wanted_and tells (from.Cells image) place address at file o w more more_wanted l
     ∙ ap (λ (l : List ℕ). over image.now address o ++ l) (two ∙ ap (λ (k : ℕ). over image.now (address + k) more) (sym long))
     ∙ sym (over_append image.now address o more)
 
--- the region was surveyed up to here
+-- the region was surveyed up to this place
 pub record SurveyedTo (tells : Bool) (source : Source) (l : Geometry) (empty address start : ℕ) (before now : BenchState) (plan : PlanView)
     (cells wanted : List ℕ) (at : ℕ) : Type 0 where
   pub within : at ≤ l.size
@@ -94,7 +94,7 @@ pub record SurveyedTo (tells : Bool) (source : Source) (l : Geometry) (empty add
   pub store : now.store_faults ≡ before.store_faults
   pub device : now.device_faults ≡ before.device_faults
 
--- the whole region was
+-- the whole region was surveyed, and its plan is made
 pub made_from : (tells : Bool) (source : Source) (w : Weights) (a : AlgorithmShown) (l : Geometry) (start : ℕ) (before now : BenchState) (plan : PlanView)
     (cells wanted : List ℕ) (at : ℕ) (made : Chosen)
     → SurveyedTo tells source l a.device.empty a.device.base start before now plan cells wanted at → at ≡ a.device.size
@@ -115,12 +115,12 @@ made_from tells source w a l start before now plan cells wanted at made so_far a
 pub no_bytes : AreBytes []
 no_bytes = λ k d less. absurd (omega (arith, less))
 
--- nothing is wanted of no cells
+-- nothing is wanted of an empty list of cells
 pub none_wanted : (tells : Bool) (source : Source) (place address : ℕ) (file : List ℕ) → AreWanted tells source place address file [] []
 none_wanted tells (from.Job job goal) place address file = λ told. refl
 none_wanted tells (from.Cells image) place address file = refl
 
--- the work on a region whose plan was made
+-- a region's plan after it was made
 pub part_after : {T E : Type 0} (r : Result T E) (a : AlgorithmShown) (old new : RegionPlan) → new.geometry ≡ old.geometry → new.base ≡ old.base →
     IsRegionPlanFor a old
     → OnOk r (Covers new.geometry new.plan)
@@ -136,7 +136,7 @@ part_after (Ok v) a old new geometry base is room = record {
 }
 part_after (Err e) a old new geometry base is room = tt
 
--- a plan to an image over the cells
+-- a plan that leads to an image over the cells
 pub planned_over : (tells : Bool) (w : Weights) (image : Bor (List Run)) (a : AlgorithmShown) (s : BenchState) (p : RegionPlan)
     → IsMadeFrom tells (from.Cells image) w a p.geometry p.start s p.plan.made
     → IsPlannedOver tells w image.now s.cells a p

@@ -1,4 +1,4 @@
--- A turn does one thing.
+-- A turn does just one thing.
 use Rattle.std.proofs.Common.{◌≡◌, ℕ, Bool, List, refl, sym, subst}
 use Rattle.bench_model.specs.Calls.{CellsAreRead}
 use Rattle.bench_model.specs.State.{BenchState}

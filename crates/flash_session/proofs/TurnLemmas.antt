@@ -1,4 +1,4 @@
--- Turns, from what the calls in a window do.
+-- Turns of a target, from what the calls in a window do.
 use Rattle.std.proofs.Common.{◌≡◌, ◌<◌, ◌≤◌, ◌+◌, ◌-◌, ◌∙◌, ◌↔◌, ℕ, Bool, IsTrue, List, [], ◌∷◌, ◌++◌, length, take, drop, get_or, Option, Some, None, Result}
 use Rattle.std.proofs.Common.{Ok, Err, sym, ap, subst, arith, append_assoc}
 use Rattle.std.proofs.Math.Seq.{take-add}
@@ -35,14 +35,14 @@ use Rattle.flash_session.specs.Stands.{OnWay, none, EndIs, HasEnded, Stands, Sta
 use Rattle.flash_session.specs.Turns.{GoesOn, judged, made_by}
 use Rattle.flash_session.proofs.CallEnds.{Came}
 
--- ---- the way goes on
+-- ---- the moves made so far grow
 
--- by a move that every rest begins with
+-- the moves grow by one that every rest begins with
 pub way_on : (l : Legs) (way : List Move) (later next : Broken → List Move) (m : Move) → OnWay l way later → ((b : Broken) → later b ≡ m ∷ next b)
     → OnWay l (way ++ (m ∷ [])) next
 way_on l way later next m on is b = ((on b).0, (on b).1 ∙ ap (λ (x : List Move). way ++ x) (is b) ∙ sym (append_assoc way (m ∷ []) (next b)))
 
--- by the reset and the load of a phase, which left these bytes
+-- the moves grow by the reset and the load of a phase, where the reset left these bytes
 pub way_begun : (l : Legs) (s : Setup) (way : List Move) (c : Cursor) (r : RegionIndex) (p : Phase) (torn : List ℕ) → OnWay l way (rest_of l c)
     → ((b : Broken) (torn : List ℕ) → rest_of l c (with_torn r p torn b) ≡ Reset s torn ∷ Load s ∷ rest_of l (at.Init r p) b)
     → OnWay l (way ++ (Reset s torn ∷ Load s ∷ [])) (rest_of l (at.Init r p))
@@ -52,7 +52,7 @@ way_begun l s way c r p torn on is b = (
       ∙ sym (append_assoc way (Reset s torn ∷ Load s ∷ []) (rest_of l (at.Init r p) b)),
 )
 
--- by the last reset
+-- the moves grow by the last reset
 pub way_last : (l : Legs) (s : Setup) (way : List Move) (c : Cursor) (torn : List ℕ) → OnWay l way (rest_of l c)
     → ((b : Broken) (torn : List ℕ) → rest_of l c (with_last torn b) ≡ Reset s torn ∷ [])
     → OnWay l (way ++ (Reset s torn ∷ [])) none
@@ -61,9 +61,9 @@ way_last l s way c torn on is b = (
   (on (with_last torn b)).1 ∙ ap (λ (x : List Move). way ++ x) (is b torn) ∙ sym (append-nil (way ++ (Reset s torn ∷ []))),
 )
 
--- ---- where it stands
+-- ---- the state of a target
 
--- a stop now leaves what one at the end of the moves leaves
+-- a stop now leaves what a stop at the end of the moves leaves
 pub left_at_end : (a : Stand) (way : List Move) (made : ℕ) (w : World) (start : BenchState) (c : List ℕ) → run a way ≡ Ok (stand_at made w)
     → start.cells ≡ w.cells → start.operation ≡ state_op w.state
     → SameOutside start.operation start.cells c → IsLeftOnWay a way c
@@ -102,7 +102,7 @@ module _ (s : Setup) (a : Stand) (way : List Move) (made : ℕ) (w : World) (ran
       leaves_as (SameOutside start.operation start.cells) (IsLeftOnWay a (way ++ more))
       (λ c same. left_more a way more c (left_at_end a way made w start c ran cells operation same)) moments
 
--- ---- an end
+-- ---- the end of a target
 
 module _ (l : Legs) (goal : List ℕ) (a : Stand) (way : List Move) (later : Broken → List Move) (on : OnWay l way later) where
   abbrev whole_moves : List Move
@@ -139,7 +139,7 @@ module _ (l : Legs) (goal : List ℕ) (a : Stand) (way : List Move) (later : Bro
     });
   }
 
--- the script went to its end
+-- the script was made to its end
 pub ends_reached : (l : Legs) (goal : List ℕ) (a : Stand) (way : List Move) → OnWay l way none → (e : TargetEnd) (made : ℕ) (w : World) (now : BenchState)
     → run a way ≡ Ok (stand_at made w) → w.cells ≡ now.cells
     → ((moves : List Move) → GoTo a moves now.cells → EndIs a moves goal e now) → HasEnded (all_legs l) goal a way e now
@@ -156,7 +156,7 @@ ends_reached l goal a way on e made w now ran cells to =
       });
     }
 
--- where moves that went ended, with the bench there, a fault broke the script off
+-- a fault broke the script off after moves that were made, and the bench is as they left it
 pub broke_off : (l : Legs) (goal : List ℕ) (a : Stand) (way : List Move) (later : Broken → List Move) → OnWay l way later
     → (e : TargetEnd) (made : ℕ) (w : World) (now : BenchState) → run a way ≡ Ok (stand_at made w)
     → now.cells ≡ w.cells → now.operation ≡ state_op w.state → ((moves : List Move) → BreaksOff a moves now → EndIs a moves goal e now)
@@ -169,7 +169,7 @@ broke_off l goal a way later on e made w now ran cells operation to =
           record { cells = cells; operation = operation };
     }) (to (script (all_legs l) (on unbroken).0))
 
--- what the call whose run has ended comes to
+-- the place after a call whose run has ended
 pub judged_stands : (l : Legs) (goal : List ℕ) (s : Setup) (a : Stand) (way : List Move) (call : Call) (made : ℕ) (next : Cursor) (e : CallEnd) (here : Point)
     (return_at : ℕ) (now : BenchState)
     → OnWay l way (rest_of l next) → Came a way made call e here.world now → here.world.cells ≡ now.cells
@@ -215,7 +215,7 @@ differs_first tells cells goal at size d told within same found =
       before = subst (λ (i : ℕ). take i cells ≡ take i goal) at_is (more_alike cells goal at f.offset same here);
     }
 
--- the cells are only read
+-- while cells are only read, a stop leaves what it left before
 pub read_moments : (a : Stand) (way : List Move) (made : ℕ) (w : World) (start end : BenchState) → run a way ≡ Ok (stand_at made w) → start.cells ≡ w.cells
     → start.operation ≡ state_op w.state
     → ((c : List ℕ) → left (cells_half start) c ↔ SameOutside start.operation start.cells c) → AddsNothing (cells_half start) (cells_half end)

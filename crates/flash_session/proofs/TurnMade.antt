@@ -1,4 +1,4 @@
--- The turns, each from the contracts of the calls that it makes.
+-- The turns of a target, each by the contracts of the calls that it makes.
 use Rattle.std.proofs.Common.{◌≡◌, ◌≢◌, ◌<◌, ◌≤◌, ◌+◌, ◌-◌, ◌^◌, ◌∙◌, ◌↔◌, ℕ, Bool, true, false, cond, nat_eq, IsTrue, List, [], ◌∷◌, ◌++◌, length, take, drop}
 use Rattle.std.proofs.Common.{Option, Some, None, Result, Ok, refl, sym, ap, subst, arith}
 use Rattle.std.proofs.lemmas.List.{append-nil}
@@ -125,7 +125,7 @@ module _ (tells : Bool) (goal : List ℕ) (old : Player) (arena : List (List ℕ
   turns_before : (p : Place) → old.place ≡ p → togo old ≡ turns_ahead (legs_of old) (size_for old) p
   turns_before p is = ap (turns_ahead (legs_of old) (size_for old)) is
 
-  -- the calls at hand alone changed
+  -- only the calls that moved last changed
   kept : (new : Player) → setup_at new.calls ≡ setup_at old.calls → map_of new.calls ≡ map_of old.calls → new.moved ≡ old.moved → new.other ≡ old.other
       → new.work ≡ old.work → new.window ≡ old.window → SameTarget old new
   kept new setup map moved other work window = same_by old new setup map moved other work window
@@ -168,7 +168,7 @@ module _ (tells : Bool) (goal : List ℕ) (old : Player) (arena : List (List ℕ
     ram_is : next_setup.ram_size ≡ s.ram_size
     ram_is = size_on old fit.scripted.twins r
 
-    -- the machine that moves next stands where the reset left the one that moved last
+    -- the machine that moves next has the world that the reset left on the one that moved last
     turned_gives : IsTrue tells → ResetGives next_setup here.world start.operation (world_at turned.calls arena2 old.window end.cells)
     turned_gives told =
         let reset = gives told in
@@ -281,7 +281,7 @@ module _ (tells : Bool) (goal : List ℕ) (old : Player) (arena : List (List ℕ
     abbrev first_setup : Setup
     first_setup = setup_on old First
 
-    -- it is the reset of the first region's machine
+    -- the last reset is that of the first region's machine
     first_gives : IsTrue tells → ResetGives first_setup here.world start.operation (world_at fin arena1 old.window end.cells)
     first_gives told = let reset = gives told in record {
       torn = reset.torn;
@@ -327,7 +327,7 @@ module _ (tells : Bool) (goal : List ℕ) (old : Player) (arena : List (List ℕ
     read : FileIsRead tells start end
     read = record { file = reads.file; moments = reads.moments }
 
-    -- the cells' half stayed
+    -- the cells' half of the bench stayed
     quiet : IsTrue tells → (a : Stand) (way more : List Move) → run a way ≡ Ok (stand_at old.made here.world)
         → Leaves (cells_half start) (cells_half end) (IsLeftOnWay a (way ++ more))
     quiet told a way more ran =
@@ -605,7 +605,7 @@ module _ (tells : Bool) (goal : List ℕ) (old : Player) (arena : List (List ℕ
           (subst (λ (b : Bool). IsCounted start.store_faults end.store_faults b) (sym (store_judged old.made call nx ending))
           (none_counted start.store_faults end.store_faults one.file.faults)) came_told)
 
-  -- ---- where a comparison stands
+  -- ---- the place of a comparison
 
   compare_place : (at : ℕ) → old.place ≡ place.Comparing at → IsPlace tells (has_second old) old.moved (place.Comparing at) (size_for old) start
   compare_place at is = subst (λ (p : Place). IsPlace tells (has_second old) old.moved p (size_for old) start) is fit.place
@@ -630,7 +630,7 @@ module _ (tells : Bool) (goal : List ℕ) (old : Player) (arena : List (List ℕ
     stays_idle : IsTrue tells → end.operation ≡ None
     stays_idle told = reads.cells.operation told ∙ compare_idle at is told
 
-    -- where the place after it holds of the cells as they were
+    -- the comparison goes to a place that is right for the cells as they are
     compare_turn : (p : Place) → IsPlace tells (has_second old) old.moved p (size_for old) end → calls_ahead (legs_of old) p ≡ 0
         → turns_ahead (legs_of old) (size_for old) p < (size_for old - at) + 2
         → IsCounted start.device_faults end.device_faults (is_device_fault (place_fault p))
@@ -682,7 +682,7 @@ module _ (tells : Bool) (goal : List ℕ) (old : Player) (arena : List (List ℕ
                 (more_alike start.cells goal at size alike (found_alike tells start.cells goal at size told finds)),
           ))
 
-    -- a cell that differs
+    -- a cell of the window differs
     pub differs_turn : (size : ℕ) (d : Difference) → at + size ≤ size_for old → (IsTrue tells → length goal ≡ size_for old)
         → FindsIn tells start.cells goal at size (Some d) → end.device_faults ≡ start.device_faults → end.store_faults ≡ start.store_faults
         → Turns tells goal old arena start (record old { place = place.Ended (ended.Mismatch d) }) arena end
@@ -700,7 +700,7 @@ module _ (tells : Bool) (goal : List ℕ) (old : Player) (arena : List (List ℕ
               (differs_first tells start.cells goal at size d told (omega (arith, le, goal_long told)) alike finds),
         )))
 
-    -- the cells, or the goal, could not be read
+    -- the cells or the goal could not be read
     pub compare_unread : (e : TargetEnd) → IsSoundEnd tells (size_for old) e end
         → IsCounted start.device_faults end.device_faults (is_device_fault (target_fault e))
         → IsCounted start.store_faults end.store_faults (is_store_fault (target_fault e)) → (IsDone (place.Ended e) → ⊥)

@@ -1,4 +1,4 @@
--- Which fault a comparison that was not made has counted.
+-- The fault that was counted by a comparison that could not be made.
 use Rattle.std.proofs.Common.{◌≡◌, ℕ, Bool, Option, subst}
 use Rattle.bench_model.specs.Counted.{BenchFault, IsCounted}
 use Rattle.flash_session.specs.declared.windows.Unread.{Unread}

@@ -32,7 +32,7 @@ use Rattle.bench_model.proofs.CountLemmas.{counted_then, none_counted}
 use Rattle.flash_session.proofs.FitLemmas.{goal_same}
 use Rattle.flash_session.proofs.MachineLemmas.{same_here, same_then, legs_same}
 
--- ---- where a target stands
+-- ---- the place of a target
 
 pub is_close : (p : Place) → at_close p ≡ true → p ≡ place.Closing
 is_close place.Closing is = refl
@@ -77,7 +77,7 @@ before_close tells has moved (place.Ended ended.DeviceFault) size b is other = t
 
 -- ---- turns
 
--- one more
+-- one more turn continues the moves
 pub goes_then : (tells : Bool) (told : IsTrue tells) (a : Stand) (way : List Move) (goal : List ℕ) (x y : Player) (arena arena' : List (List ℕ))
     (s t u : BenchState) → GoesOn a way goal x arena s t → Turns tells goal x arena t y arena' u → GoesOn a way goal y arena' s u
 goes_then tells told a way goal x y arena arena' s t u one two =
@@ -92,7 +92,7 @@ goes_then tells told a way goal x y arena arena' s t u one two =
           one.moments) then_.moments);
     }
 
--- none so far
+-- no turn so far
 pub played_here : (tells : Bool) (goal : List ℕ) (x : Player) (arena : List (List ℕ)) (s : BenchState)
     → (IsTrue tells → (c : List ℕ) → left (cells_half s) c ↔ SameOutside s.operation s.cells c) → Fit tells x arena s → IsPlaying x.place
     → Played tells goal x arena s x arena s
@@ -161,7 +161,7 @@ played_on tells j x y z arena arena1 arena2 s t u so_far playing turn =
     (turns_to tells (goal_for j y t.file) (goal_for j x s.file) y z arena1 arena2 t u
     (λ told. goal_same j x y t.file so_far.same ∙ ap (goal_for j x) (so_far.file.file told)) turn)
 
--- ---- their end
+-- ---- the end of the turns
 
 module _ (legs : List Leg) (goal : List ℕ) (a : Stand) (way : List Move) (start now : BenchState)
     (moments : Leaves (cells_half start) (cells_half now) (IsLeftOnWay a way)) where
@@ -174,7 +174,7 @@ module _ (legs : List Leg) (goal : List ℕ) (a : Stand) (way : List Move) (star
         (leaves_as (IsLeftOnWay a way) (IsLeftOnWay a (way ++ later)) (left_more a way later) moments);
   }
 
-  -- the script was broken off, or a call of it failed, or a cell is not the goal
+  -- the script was broken off, a call of it failed, or a cell differs from the goal
   follows_ended : (t : TargetEnd) (e : SessionEnd) → IsEndOf t e → HasEnded legs goal a way t now → Follows legs goal a e start now
   follows_ended (ended.CallFailed number call x) e is has = subst (λ (f : SessionEnd). Follows legs goal a f start now) (sym is)
       (follows_by (end.CallFailed number call x) has.broken has.later has.whole has.ends)
