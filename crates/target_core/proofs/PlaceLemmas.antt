@@ -1,4 +1,4 @@
--- One comparison tells whether an access lies in the RAM: below the RAM, the subtraction goes past the end of what is left of the addresses.
+-- One comparison decides whether an access lies in the RAM: below the RAM, the subtraction gives a number past the end of the remaining addresses.
 use Rattle.std.proofs.Common.{◌≡◌, ◌<◌, ◌≤◌, ◌+◌, ◌-◌, ◌%◌, ◌^◌, min, ℕ, Bool, true, false, ◌||◌, nat_eq, nat_lt, if◌then◌else◌, Option, Some, None, refl, sym}
 use Rattle.std.proofs.Common.{ap, arith, ⊎_elim, ◌*◌, ◌/◌, bit_or, eqb-true}
 use Rattle.std.specs.Int.{w32, rotate_right}
@@ -60,7 +60,7 @@ apart_there base size block bytes at offset apart small fits is within =
           (cases_lt block (base + size)),
     )
 
--- A number that is rotated right by one bit or two lies below a half or a quarter of all numbers where it was even or a multiple of 4.
+-- Rotating an even number right by one bit gives less than half of 2^32; rotating a multiple of 4 by two bits gives less than a quarter.
 
 above : (a b : ℕ) → b ≤ bit_or a b
 above a b = omega (arith, or_add_and a b, and_le_l a b)
