@@ -20,7 +20,7 @@ at_close start aim goal f c at = ⊎_elim
     (λ closed. inr (inr (record { closed = closed; done = ap (λ (l : List ℕ). Some l) (sym at.done) })))
     at.whole_or_closed
 
--- a call that begins with safe pairs leaves safe pairs
+-- a call with safe pairs before its close leaves only safe pairs
 pub in_turn : (start : BenchState) (aim : CampaignJob) (last : Option (List ℕ)) (old new : BenchState) (closing : ℕ) (goal : List ℕ)
     (First : List ℕ → List ℕ → Type 0)
     → ((f c : List ℕ) → First f c → IsSafePair start aim last f c) → PairsInTurn old new closing First (IsAtClose aim.body goal) →

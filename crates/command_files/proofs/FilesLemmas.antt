@@ -171,7 +171,7 @@ one_read raw_at files a b one two =
 pub one_aim : (asked : FilesAsked) (files : FilesGiven) (a b : Aim) → IsAim asked.raw_at files a → IsAim asked.raw_at files b → a ≡ b
 one_aim asked files a b one two = one_read asked.raw_at files a b one.are_read two.are_read
 
--- The steps up to which files are right before they are refused.
+-- The stages at which files are refused.
 
 -- a refusal, by the stage at which it comes
 data Stage (asked : FilesAsked) (files : FilesGiven) (r : Refusal) : Type 0 where
@@ -195,14 +195,14 @@ module _ (asked : FilesAsked) (files : FilesGiven) where
   board_or_refused : (b : board.Shown) (fault : BoardFault) → IsBoard files.board b → reading files.board ≡ Err fault → ⊥
   board_or_refused b fault is isn't = cc
 
-  -- the names are enough
+  -- a board with a name left for an image isn't refused for its names
   enough_or_not : (b : board.Shown) → IsBoardOf files b → HasNoImage files → ⊥
   enough_or_not b is none =
       let same = one_board files.board none.board b none.is_board is.is_board in
       let leaves = subst (λ (x : board.Shown). LeavesNoImage files x) same none.leaves in
       omega (arith, leaves.few, is.enough leaves.has_flm)
 
-  -- there is an algorithm for each region
+  -- files with an algorithm for each region aren't refused for their algorithms
   target_or_refused : (b : board.Shown) (algorithms : List flm.Shown) (r : Refusal) → IsBoardOf files b
       → AreFor b b.regions (flm_files files.flm files.images b) algorithms → HasNoTarget files r → ⊥
   target_or_refused b algorithms r is are none =
@@ -217,7 +217,7 @@ module _ (asked : FilesAsked) (files : FilesGiven) where
       one_no_target b b.regions (flm_files files.flm files.images b) r s
       (subst (λ (x : board.Shown). AreNotFor x x.regions (flm_files files.flm files.images x) r) same one.are_not) two.are_not
 
-  -- the images are right
+  -- files that are read aren't refused for an image
   images_or_wrong : (aim : Aim) (name : List ℕ) (fault : AnyFault) → AreRead asked.raw_at files aim → HasWrongImage asked files name fault → ⊥
   images_or_wrong aim name fault are wrong =
       let mine = wrong.has_target.has_board in

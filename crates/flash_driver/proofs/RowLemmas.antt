@@ -77,7 +77,7 @@ pub bus_store_fine : {R : Type 0} (t : Table R) (map : FlashMap) (s : State R) (
     is_device (bus_store t map s cells at width value).0 ≡ false
 bus_store_fine t map s cells at width value = quiet_fine tt (in_quiet map.quiet at) _ (store_row_fine t map s cells at width value)
 
--- an answer that is the row if no cell is looked at, and that is a device fault, looked at cells
+-- an answer that is the row unless cells are looked at: if it is a device fault, cells were looked at
 looked : (looks : Bool) (row result : Result ℕ BusEnd) → is_device row ≡ false → (looks ≡ false → result ≡ row) → is_device result ≡ true → looks ≡ true
 looked true row result fine elsewhere fault = refl
 looked false row result fine elsewhere fault = absurd (false≢true (sym fine ∙ sym (ap is_device (elsewhere refl)) ∙ fault))

@@ -60,7 +60,7 @@ module _ (page : ℕ) (runs : List Run) (firsts : List ℕ) (t : AreFirstPages p
       ] in
       (here, omega (arith, e, next, over, low), omega (arith, e, low))
 
-  -- which sector of the run, and which page of it
+  -- the sector's number in the run, and the page's number in the sector
   pub page_parts : (at index each : ℕ) → at < length firsts → slice_index firsts at ≤ index → (at + 1 < length firsts → index < slice_index firsts (at + 1)) →
       index < length (pages_of page (sectors_of runs))
       → each ≡ pieces page 0 (run_at runs at).step

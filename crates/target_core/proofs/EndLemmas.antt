@@ -28,7 +28,7 @@ tested_odd true used r0 at e pc r k back left same fine = cc
 tested_odd false true r0 at e pc r k back left same fine = cc
 tested_odd false false r0 at e pc r k back left same fine = last_fine e pc r k same fine
 
--- an end before a step, other than the return point or the fuel, comes after the step's instruction
+-- an end other than the return point or the fuel is at the point after the step's instruction
 end_odd : (return_at fuel : ℕ) (p : Point) (k : ℕ) (r : RunEnd) → nat_eq (pc_of (whole p k).core) return_at ≡ false → nat_eq k fuel ≡ false →
     end_at return_at fuel p k ≡ Some r → last_number r k ≡ 2 * k + 1
 unfolding end_at

@@ -60,7 +60,7 @@ apart_there base size block bytes at offset apart small fits is within =
           (cases_lt block (base + size)),
     )
 
--- Rotating an even number right by one bit gives less than half of 2^32; rotating a multiple of 4 by two bits gives less than a quarter.
+-- If a number rotated right by one bit is below 2^31, it was even. If a number rotated right by two bits is below 2^30, it was a multiple of 4.
 
 above : (a b : ℕ) → b ≤ bit_or a b
 above a b = omega (arith, or_add_and a b, and_le_l a b)
@@ -80,7 +80,7 @@ by_two x limit below most =
     let none : x * 2 ^ 30 % 2 ^ 32 ≡ 0 = omega (arith, high) in
     (omega (arith, none), same_or (x / 4) (x * 2 ^ 30 % 2 ^ 32) none)
 
--- a count of steps that isn't 0 lies within the reach, and the base is a multiple of a step
+-- an index below the count of steps is below the steps in reach, and the base is a multiple of a step
 some_step : (fits : Bool) (steps count : ℕ) (i : ℕ) → count ≡ (if fits then steps else 0) → i < count → (fits ≡ true) × (i < steps)
 some_step true steps count i is some = (refl, omega (arith, is, some))
 some_step false steps count i is some = absurd (omega (arith, is, some))
