@@ -1,4 +1,4 @@
--- In every campaign each pair left is untouched, whole or finished, by induction on the list of calls.
+-- In every campaign each pair that is left is untouched, whole or finished, by induction on the list of calls.
 use Rattle.std.proofs.Common.{◌≡◌, ◌⊎◌, ◌∙◌, ⊎_elim, inl, inr, ◌≤◌, ◌<◌, ℕ, List, [], ◌∷◌, Option, Some, None, sym, ap, subst, cond, Bool, arith}
 use Rattle.std.proofs.lemmas.Bool.{cases_lt, lt-leb, le-leb}
 use Rattle.bench_model.specs.History.{left}
@@ -20,7 +20,7 @@ at_close start aim goal f c at = ⊎_elim
     (λ closed. inr (inr (record { closed = closed; done = ap (λ (l : List ℕ). Some l) (sym at.done) })))
     at.whole_or_closed
 
--- a run that begins with good pairs
+-- a call with safe pairs before its close leaves only safe pairs
 pub in_turn : (start : BenchState) (aim : CampaignJob) (last : Option (List ℕ)) (old new : BenchState) (closing : ℕ) (goal : List ℕ)
     (First : List ℕ → List ℕ → Type 0)
     → ((f c : List ℕ) → First f c → IsSafePair start aim last f c) → PairsInTurn old new closing First (IsAtClose aim.body goal) →
@@ -32,7 +32,7 @@ in_turn start aim last old new closing goal First good run k f c from to f_at c_
     (at_close start aim goal f c (run.from k f c late to f_at c_at)))
     (cases_lt k closing)
 
--- a status is none of those without a close
+-- a status that is none of those without a close
 pub other_status : (status n : ℕ) → status ≡ n → (n ≡ 1 → ⊥) → (n ≡ 9 → ⊥) → (n ≡ 11 → ⊥) → (n ≡ 12 → ⊥) → HasNoClose status → ⊥
 other_status status n is a b c d none = ⊎_elim
     (λ (one : status ≡ 1). a (sym is ∙ one))
@@ -42,7 +42,7 @@ other_status status n is a b c d none = ⊎_elim
     more)
     none
 
--- the file as read is free or stands for the job
+-- the file as it is read is free or the job's
 pub reads : (start : BenchState) (aim : CampaignJob) (last : Option (List ℕ)) (f c : List ℕ) → ((g : List ℕ) → left (file_half start) g → IsFree g) →
     IsSafePair start aim last f c → IsFree f ⊎ IsWhole aim.body f
 reads start aim last f c free good = ⊎_elim
@@ -51,7 +51,7 @@ reads start aim last f c free good = ⊎_elim
     (λ (d : IsFinished aim.body last f c). inl d.closed.free) rest)
     good
 
--- one later call
+-- one later call is safe
 pub one : (start : BenchState) (aim : CampaignJob) (last : Option (List ℕ)) (call : LaterCall)
     → ((f c : List ℕ) → left (file_half call.old) f → left (cells_half call.old) c → IsSafePair start aim last f c)
     → Keeps aim call → IsFree call.old.file ⊎ IsWhole aim.body call.old.file
@@ -72,7 +72,7 @@ one start aim last call good keeps class = ⊎_elim
     ))
     class
 
--- what the next call is entered with
+-- what the next call is entered with is safe
 pub enters : (start : BenchState) (aim : CampaignJob) (last : Option (List ℕ)) (old new : BenchState) (closing : ℕ) (goal : List ℕ) (end : ℕ)
     (next : BenchState)
     → old.moment ≤ end → end ≤ new.moment → IsSafe start aim last old new closing goal → IsEntered aim new end next

@@ -1,4 +1,4 @@
--- Counts of faults, and what stands, whatever the command.
+-- Counts of faults, and what an answer leaves, for every command.
 use Rattle.std.proofs.Common.{◌≡◌, ◌∙◌, sym, ap, subst, refl, arith, ℕ, Bool, true, false, IsTrue, List, Some, None}
 use Rattle.bench_model.specs.State.{BenchState}
 use Rattle.bench_model.proofs.Moments.{only_reads_here, file_stays_here, cells_stay_here}
@@ -16,7 +16,7 @@ use Rattle.command_files.specs.Answered.{on_job_file, on_own_bench, AtSeven, AtO
 
 -- The status.
 
--- status 0 is nothing else than done
+-- status 0 means "done"
 pub zero_is_done : (status : ℕ) (err : SinkCall) (answer : Answer) → Says status err answer → status ≡ 0 → answer ≡ done
 zero_is_done status err done says zero = refl
 zero_is_done status err (refused refusal) says zero = absurd (omega (arith, some_status refusal, says.0, zero))
@@ -34,7 +34,7 @@ unraised before after fault answer same other = record {
 no_fault : (answer : Answer) (fault : Fault) → fault_in answer ≡ None → fault_in answer ≡ Some fault → ⊥
 no_fault answer fault none is = cc
 
--- a command that has no fault of the store never answers it
+-- a command without a fault of the job file never answers one
 pub never_store : (has : Refusal → Bool) → has store_fault ≡ false → (answer : Answer) → IsOf has answer → fault_in answer ≡ Some store → ⊥
 never_store has none done kind is = cc
 never_store has none (refused (input_fault name)) kind is = let same : input ≡ store = cc in cc
@@ -43,7 +43,7 @@ never_store has none (refused device_fault) kind is = let same : device ≡ stor
 never_store has none (refused output_fault) kind is = let same : output ≡ store = cc in cc
 never_store has none (refused r) kind is = cc
 
--- nor does one that takes no files answer a fault of the inputs
+-- a command that takes no files never answers a fault of the inputs
 pub never_input : (has : Refusal → Bool) → ((name : List ℕ) → has (input_fault name) ≡ false) → (answer : Answer) → IsOf has answer
     → fault_in answer ≡ Some input → ⊥
 never_input has none done kind is = cc
@@ -129,11 +129,11 @@ module _ (tells told : Bool) (b : BenchState) (o : SinkState) (inputs : InputsCa
   }
   untaken_lawful scope has names r seven memory fault is = absurd is
 
--- the file that was taken is the one that stands under the name
+-- the file that was taken is the one with this name
 pub one_file : (inputs : InputsCall) (name bytes other : List ℕ) → IsTrue inputs.tells → inputs.before.stands name ≡ Some bytes
     → IsFile inputs name other → other ≡ bytes
 one_file inputs name bytes other told stands file = let its = file told in cc
 
--- where nothing was taken no take failed
+-- if nothing was taken, no take failed
 pub took_none : (inputs : InputsCall) → TakesNothing inputs → NoneFailed inputs
 took_none inputs takes = record { faults = takes.faults; failed = λ told. takes.failed }

@@ -1,4 +1,4 @@
--- What a job file is, it is alone: free, whole for one job, damaged, or no job for one reason.
+-- A job file is just one of these: free, whole for one job, damaged, or no job for one reason.
 use Rattle.std.proofs.Common.{◌≡◌, ◌≤◌, ◌∙◌, refl, sym, ap, subst, arith, ℕ, List, [], ◌∷◌, length, Ok}
 use Rattle.board_file.specs.Shown as board
 use Rattle.board_file.specs.Text.{reading}
@@ -24,17 +24,17 @@ open_not_free : (body : List ℕ) → 1 ≤ length body → IsFree (open_gate �
 open_not_free [] some free = absurd (omega (arith, some))
 open_not_free (byte ∷ rest) some free = free refl
 
--- a file that stands for a job isn't free
+-- a job's file isn't free
 pub not_free : (job : Job) (file : List ℕ) → IsWhole (body_of job) file → IsFree file → ⊥
 not_free job file whole free = open_not_free (body_of job) (some_body job) (subst (λ (f : List ℕ). IsFree f) whole free)
 
--- nor is one that is damaged
+-- a damaged file isn't free
 pub damaged_open : (file kept found : List ℕ) → IsDamaged kept found file → IsFree file → ⊥
 damaged_open [] kept found is free = absurd (omega (arith, is.long))
 damaged_open (gate ∷ []) kept found is free = absurd (omega (arith, is.long))
 damaged_open (gate ∷ next ∷ rest) kept found is free = let opened : gate ≡ 165 = cc in free opened
 
--- a file that isn't a job, for one reason
+-- a file that isn't a job has one reason
 pub one_reason : (file : List ℕ) (at other : ℕ) → IsNotAJob at file → IsNotAJob other file → at ≡ other
 one_reason file at other is too = let e : reading_of.not_a_job at ≡ reading_of.not_a_job other = sym is.shows ∙ too.shows in cc
 
@@ -57,7 +57,7 @@ same_said (file ∷ files) (x ∷ xs) (y ∷ ys) is too =
     let tails = same_said files xs ys is.1 too.1 in
     cc
 
--- A file stands for one job, whose texts say one board and one algorithm for each region.
+-- A file is that of one job, whose texts say one board and one algorithm for each region.
 pub record AreOne (j k : Job) (b c : board.Shown) (xs ys : List flm.Shown) : Type 0 where
   pub job : j ≡ k
   pub board : b ≡ c

@@ -20,7 +20,7 @@ use Rattle.command_files.specs.Refused.{LeavesNoImage, IsOtherDevice, HasNoRoom,
 use Rattle.command_files.specs.Refused.{HasNoTarget, HasWrongImage, IsMisplaced, IsRefused}
 use Rattle.command_files.proofs.ImageLemmas.{one_union, images_or_refused, one_image_refused, inside_or_fault, one_place_fault}
 
--- The files that stand under the names.
+-- The files with these names.
 
 one_each : (inputs : InputsCall) (names xs ys : List (List ℕ)) → IsTrue inputs.tells → AreEach inputs names xs → AreEach inputs names ys → xs ≡ ys
 one_each inputs names xs ys told one two = ext_get_or [] xs ys (one.count ∙ sym two.count) (λ k less.
@@ -47,7 +47,7 @@ one_given inputs asked a b told one two =
           → ◌≡◌ {A = FilesGiven} (record { board = x; flm = f; images = is }) (record { board = y; flm = g; images = js })
       same_record x y f g is js board flm images = cc
 
--- what holds of the files that were given holds of those that stand under the names
+-- what holds of the files that were given holds of the files with these names
 pub holds_of : (inputs : InputsCall) (asked : FilesAsked) (files : FilesGiven) (Holds : FilesGiven → Type 0) → IsTrue inputs.tells → AreFiles inputs asked files
     → Given inputs asked Holds → Holds files
 holds_of inputs asked files Holds told are given = subst Holds (one_given inputs asked given.files files told given.are_files are) given.holds
@@ -55,7 +55,7 @@ holds_of inputs asked files Holds told are given = subst Holds (one_given inputs
 -- An algorithm and a region of a board.
 
 module _ (board : board.Shown) (base size : ℕ) (algorithm : flm.Shown) where
-  -- an algorithm for the board isn't refused for it
+  -- an algorithm that fits the board isn't refused for it
   fit_or_unfit : (r : Refusal) → IsForBoard board base size algorithm → IsUnfit board base size algorithm r → ⊥
   fit_or_unfit (other_device told_base told_size) fit unfit =
       ⊎_elim (λ other. other (unfit.base_is ∙ fit.base_is)) (λ other. other (unfit.size_is ∙ fit.size_is)) unfit.other
@@ -68,7 +68,7 @@ module _ (board : board.Shown) (base size : ℕ) (algorithm : flm.Shown) where
   other_or_no_room told_base told_size need have one two =
       ⊎_elim (λ other. other (one.base_is ∙ two.base_is)) (λ other. other (one.size_is ∙ two.size_is)) one.other
 
-  -- nor is it refused in two ways
+  -- an algorithm isn't refused for two reasons
   one_unfit : (r s : Refusal) → IsUnfit board base size algorithm r → IsUnfit board base size algorithm s → r ≡ s
   one_unfit (other_device a b) (other_device c d) one two =
       let base_same : a ≡ c = one.base_is ∙ sym two.base_is in
@@ -155,7 +155,7 @@ module _ (board : board.Shown) where
 one_board : (text : List ℕ) (a b : board.Shown) → IsBoard text a → IsBoard text b → a ≡ b
 one_board text a b one two = cc
 
--- what is read is one
+-- files are read as one aim
 pub one_read : (raw_at : Option ℕ) (files : FilesGiven) (a b : Aim) → AreRead raw_at files a → AreRead raw_at files b → a ≡ b
 one_read raw_at files a b one two =
     let boards = one_board files.board a.board b.board one.board.is_board two.board.is_board in
@@ -171,7 +171,7 @@ one_read raw_at files a b one two =
 pub one_aim : (asked : FilesAsked) (files : FilesGiven) (a b : Aim) → IsAim asked.raw_at files a → IsAim asked.raw_at files b → a ≡ b
 one_aim asked files a b one two = one_read asked.raw_at files a b one.are_read two.are_read
 
--- How far files are right before they are refused.
+-- The stages at which files are refused.
 
 -- a refusal, by the stage at which it comes
 data Stage (asked : FilesAsked) (files : FilesGiven) (r : Refusal) : Type 0 where
@@ -195,14 +195,14 @@ module _ (asked : FilesAsked) (files : FilesGiven) where
   board_or_refused : (b : board.Shown) (fault : BoardFault) → IsBoard files.board b → reading files.board ≡ Err fault → ⊥
   board_or_refused b fault is isn't = cc
 
-  -- names enough
+  -- a board with a name left for an image isn't refused for its names
   enough_or_not : (b : board.Shown) → IsBoardOf files b → HasNoImage files → ⊥
   enough_or_not b is none =
       let same = one_board files.board none.board b none.is_board is.is_board in
       let leaves = subst (λ (x : board.Shown). LeavesNoImage files x) same none.leaves in
       omega (arith, leaves.few, is.enough leaves.has_flm)
 
-  -- an algorithm for each region
+  -- files with an algorithm for each region aren't refused for their algorithms
   target_or_refused : (b : board.Shown) (algorithms : List flm.Shown) (r : Refusal) → IsBoardOf files b
       → AreFor b b.regions (flm_files files.flm files.images b) algorithms → HasNoTarget files r → ⊥
   target_or_refused b algorithms r is are none =
@@ -217,7 +217,7 @@ module _ (asked : FilesAsked) (files : FilesGiven) where
       one_no_target b b.regions (flm_files files.flm files.images b) r s
       (subst (λ (x : board.Shown). AreNotFor x x.regions (flm_files files.flm files.images x) r) same one.are_not) two.are_not
 
-  -- images
+  -- files that are read aren't refused for an image
   images_or_wrong : (aim : Aim) (name : List ℕ) (fault : AnyFault) → AreRead asked.raw_at files aim → HasWrongImage asked files name fault → ⊥
   images_or_wrong aim name fault are wrong =
       let mine = wrong.has_target.has_board in
@@ -246,7 +246,7 @@ module _ (asked : FilesAsked) (files : FilesGiven) where
   misplaced_again a b fault one two is =
       subst (λ (x : Aim). IsPlaceFault x.image (ranges_of x.board.regions) fault) (one_read asked.raw_at files a b one two) is
 
-  -- files that are read are refused for their place alone
+  -- files that are read can only be refused for the place of their union
   read_or_refused : (aim : Aim) (r : Refusal) → AreRead asked.raw_at files aim → ((fault : ImageFault) → IsMisplaced asked.raw_at files fault → ⊥)
       → Stage asked files r → ⊥
   read_or_refused aim r are place (at_board fault is isn't) = board_or_refused aim.board fault are.board.is_board isn't
@@ -262,7 +262,7 @@ module _ (asked : FilesAsked) (files : FilesGiven) where
       (misplaced_again misplaced.aim aim fault misplaced.are_read is.are_read misplaced.is_fault))
       (stage_of r refused)
 
-  -- nor are files refused in two ways
+  -- files aren't refused for two reasons
   one_stage : (r s : Refusal) → Stage asked files r → Stage asked files s → r ≡ s
   one_stage r s (at_board a is one) (at_board b its two) = let same : a ≡ b = cc in is ∙ ap board_refused same ∙ sym its
   one_stage r s (at_board a is one) (at_names its two) = absurd (board_or_refused two.board a two.is_board one)

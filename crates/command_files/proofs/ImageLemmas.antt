@@ -1,4 +1,4 @@
--- The files of `verify` have one image or one refusal.
+-- The image files of a command have one image or one refusal.
 use Rattle.std.proofs.Common.{◌≡◌, ◌≢◌, ◌<◌, ◌≤◌, ◌^◌, ◌∙◌, sym, ap, subst, refl, arith, ⊎_elim, ◌⊎◌, ℕ, zero, suc, IsSome, List, [], length, Option, Some}
 use Rattle.std.proofs.lemmas.Bool.{cases_lt}
 use Rattle.byte_map.specs.Image.{Run, byte_at, AreMaximal}
@@ -27,7 +27,7 @@ maximal_union raw_at files (suc n) image is = is.union.maximal
 one_union_of : (image other a b : List Run) → IsUnion image other a → IsUnion image other b → a ≡ b
 one_union_of image other a b one two = one_list 0 (2 ^ 32) a b one.maximal two.maximal (λ x. one.same x ∙ sym (two.same x))
 
--- images with a union don't clash
+-- images that have a union don't clash
 union_or_clash : (image other union : List Run) (at old new : ℕ) → AreMaximal 0 (2 ^ 32) image → IsUnion image other union → IsLeastClash image other at old new
     → ⊥
 union_or_clash image other union at old new maximal one two =
@@ -84,7 +84,7 @@ one_union raw_at files (suc n) a b one two =
     one_union_of two.before two.image a b
     (subst (λ (i : List Run). IsUnion two.before i a) image (subst (λ (b : List Run). IsUnion b one.image a) before one.union)) two.union
 
--- a union of many files has one of each beginning
+-- files with a union have one for each number of first files
 pub record IsReadAt (raw_at : Option ℕ) (files : List (List ℕ)) (k : ℕ) : Type 0 where
   pub whole : List Run
   pub next : IsNextUnion (IsUnionBefore raw_at files k) raw_at (file_at files k) whole

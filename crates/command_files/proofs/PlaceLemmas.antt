@@ -28,7 +28,7 @@ address_first r rs place less = chosen_first place r.size (Some (r.base + place)
 pub address_later : (r : Region) (rs : List Region) (place : ℕ) → r.size ≤ place → address_at (r ∷ rs) place ≡ address_at rs (place - r.size)
 address_later r rs place most = chosen_later place r.size (Some (r.base + place)) (address_at rs (place - r.size)) most
 
--- each place has one
+-- each place has an address
 pub has_address : (rs : List Region) (place : ℕ) → place < size_of rs → IsSome (address_at rs place)
 has_address [] place less = let none : size_of [] ≡ 0 = refl in absurd (omega (arith, none, less))
 has_address (r ∷ rs) place less = ⊎_elim

@@ -1,5 +1,4 @@
--- What a command on files answers, by what it does: it yields before anything was done, it refuses the files, or it works on what they
--- want.
+-- What a command on files answers, by what it does: it yields before any work, it refuses the files, or it works on what they want.
 use Rattle.std.proofs.Common.{◌≡◌, ap, subst, inl, inr, true}
 use Rattle.report_text.specs.Refusal.{Refusal}
 use Rattle.command_words.specs.Files.{FilesAsked}

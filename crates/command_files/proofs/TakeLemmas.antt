@@ -1,4 +1,4 @@
--- Taking the files of some names, one after the other.
+-- Taking the files of some names, one after another.
 use Rattle.std.proofs.Common.{◌≡◌, ◌<◌, ◌≤◌, ◌+◌, ◌∙◌, sym, ap, subst, refl, arith, ⊎_elim, ℕ, zero, suc, Bool, IsTrue, All, List, [], ◌∷◌, ◌++◌, take, drop}
 use Rattle.std.proofs.Common.{length, get_or, length-append, Some}
 use Rattle.std.proofs.lemmas.Bool.{cases_lt}
@@ -29,7 +29,7 @@ all_back P (x ∷ xs) ys all = all_back P xs ys (All-tail P x (xs ++ ys) all)
 pub each_of_none : (inputs : InputsCall) → AreEach inputs [] []
 each_of_none inputs = record { count = refl; each = λ k less told. absurd (omega (arith, less)) }
 
--- one more
+-- one more file was taken
 pub each_push : {inputs : InputsCall} {names files : List (List ℕ)} → AreEach inputs names files → (name file : List ℕ) → IsFile inputs name file
     → AreEach inputs (names ++ name ∷ []) (files ++ file ∷ [])
 each_push {inputs} {names} {files} are name file is = record {
@@ -50,7 +50,7 @@ each_push {inputs} {names} {files} are name file is = record {
 pub each_of_one : (inputs : InputsCall) (name file : List ℕ) → IsFile inputs name file → AreEach inputs (name ∷ []) (file ∷ [])
 each_of_one inputs name file is = each_push (each_of_none inputs) name file is
 
--- what stood under the names before an earlier take too
+-- the files with these names were the same before an earlier take
 pub each_earlier : {tells : Bool} {a b c d : InputsState} {names files : List (List ℕ)} → AreEach (inputs_call tells b c) names files
     → ((name : List ℕ) → b.stands name ≡ a.stands name) → AreEach (inputs_call tells a d) names files
 each_earlier {names = names} are same = record { count = are.count; each = λ k less told. sym (same (name_at names k)) ∙ are.each k less told }
@@ -76,7 +76,7 @@ none_failed_then one two = record { faults = two.faults ∙ one.faults; failed =
 
 -- Names that can't be taken.
 
--- among more names
+-- a fault among some names is a fault among more names
 pub fault_before : (inputs : InputsCall) (names later : List (List ℕ)) (r : Refusal) → IsTakeFault inputs names r → IsTakeFault inputs (names ++ later) r
 fault_before inputs names later out_of_memory is = is
 fault_before inputs names later (input_fault name) is = (

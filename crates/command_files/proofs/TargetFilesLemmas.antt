@@ -17,7 +17,7 @@ has_file inputs asked files some are = also asked.flm files.flm some are.flm.cou
   also (Some x) None some count = absurd (omega (arith, count))
   also (Some x) (Some y) some count = search rules
 
--- what is taken off the end of a list of at most one
+-- taking the last element of a list of at most one
 pub taken_off : {A : Type 0} (all rest : List A) (last : Option A) → length all ≤ 1 → all ≡ rest ++ option_to_list last → (0 < length all → IsSome last)
     → all ≡ option_to_list last
 taken_off all [] last few is some = is
@@ -32,7 +32,7 @@ pub taken_is : (images after rest : List (List ℕ)) (n : ℕ) (last : Option (L
 taken_is images after rest n last are is some few enough =
     sym are ∙ taken_off after rest last (omega (arith, ap length are, length-take-le n images enough, few)) is some
 
--- it is short where all are
+-- the last file is short if all files are
 pub one_short : (longest : ℕ) (images : List (List ℕ)) (n : ℕ) (last : Option (List ℕ)) → All (λ (bytes : List ℕ). length bytes ≤ longest) images
     → take n images ≡ option_to_list last → ForSome last (λ (bytes : List ℕ). length bytes ≤ longest)
 one_short longest images n None all is = λ bytes it. absurd (cc)
@@ -43,7 +43,7 @@ one_short longest (image ∷ images) (suc n) (Some x) all is = λ bytes it.
     subst (λ (y : List ℕ). length y ≤ longest) same (subst (λ (bytes : List ℕ). length bytes ≤ longest) (ap (λ (l : List (List ℕ)). get_or l 0 []) is)
     (All-head (λ (bytes : List ℕ). length bytes ≤ longest) image images all))
 
--- the FLM files are the first and those at the head of the others
+-- the FLM files are the first one and the first of the others
 pub flms_are : (files : FilesGiven) (board : board.Shown) (n : ℕ) (first : List ℕ) (second : Option (List ℕ)) → files.flm ≡ Some first
     → n ≡ length board.regions - 1
     → take n files.images ≡ option_to_list second → flm_files files.flm files.images board ≡ first ∷ option_to_list second

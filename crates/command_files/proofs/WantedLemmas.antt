@@ -29,7 +29,7 @@ use Rattle.command_files.specs.Files.{others_of, flm_files, image_files, IsOneFo
 use Rattle.command_files.specs.Refused.{LeavesNoImage, IsUnfit, IsUnread, IsNoneFor, AreNotFor, HasBoard, HasTarget, IsMisplaced}
 use Rattle.command_files.specs.Steps.{Adds, IsBoardRefusal, IsFlmRefusal, AreFlmRefusal, ReadsAlgorithms, IsImagesRefusal, IsFilesRefusal}
 
--- one file more
+-- the union of images grows by one file
 pub union_more : (raw_at : Option ℕ) (files : List (List ℕ)) (done : ℕ) (before after : List Run) (file : List ℕ) → file ≡ file_at files done
     → IsUnionBefore raw_at files done before → Adds raw_at file before after → IsUnionBefore raw_at files (done + 1) after
 union_more raw_at files done before after file is is_before adds =
@@ -41,7 +41,7 @@ union_more raw_at files done before after file is is_before adds =
       union = adds.union;
     })
 
--- The refusals, one after the other.
+-- The refusals, one after another.
 
 pub board_refusal : (asked : FilesAsked) (files : FilesGiven) (r : Refusal) → IsBoardRefusal files.board r → IsFilesRefusal asked files r
 board_refusal asked files out_of_memory is = tt
@@ -140,7 +140,7 @@ module _ (asked : FilesAsked) (files : FilesGiven) (b : board.Shown) (is_board :
 
 -- The refusals of FLM files in turn.
 
--- the file is refused, or there was no memory to read it
+-- an FLM file is refused, or memory ran out while it was read
 pub unread_one : (b : board.Shown) (region : Region) (file : List ℕ) (fault : FlmFault) → (fault ≢ unread.OutOfMemory → flm_of file ≡ Err fault)
     → IsFlmRefusal b region file (of_flm fault)
 unread_one b region file unread.OutOfMemory is = tt
@@ -152,13 +152,13 @@ pub unfit_one : (b : board.Shown) (region : Region) (file : List ℕ) (algorithm
 unfit_one b region file algorithm out_of_memory says unfit = tt
 unfit_one b region file algorithm r says unfit = inr (record { algorithm = algorithm; says = says; unfit = unfit })
 
--- the first isn't one for its region
+-- the first FLM file isn't one for its region
 pub first_refused : (b : board.Shown) (regions : List Region) (region : Region) (rest : List Region) (file : List ℕ) (files : List (List ℕ)) (r : Refusal)
     → b.regions ≡ region ∷ rest → IsFlmRefusal b region file r → AreFlmRefusal b (file ∷ files) r
 first_refused b regions region rest file files out_of_memory is refused = tt
 first_refused b regions region rest file files r is refused = subst (λ (rs : List Region). AreNotFor b rs (file ∷ files) r) (sym is) (inl refused)
 
--- the second isn't
+-- the second FLM file isn't one for its region
 pub second_refused : (b : board.Shown) (one two : Region) (file other : List ℕ) (algorithm : flm.Shown) (r : Refusal) → b.regions ≡ one ∷ two ∷ []
     → IsOneFor b one file algorithm → IsFlmRefusal b two other r → AreFlmRefusal b (file ∷ other ∷ []) r
 second_refused b one two file other algorithm out_of_memory is first refused = tt
@@ -167,7 +167,7 @@ second_refused b one two file other algorithm r is first refused =
 
 -- The algorithms of FLM files in turn.
 
--- algorithms that were gathered, or no memory
+-- algorithms were gathered, or memory ran out
 pub gathered : {V : Type 0} (items : V → List Algorithm) (b : board.Shown) (files : List (List ℕ)) (algorithms : List Algorithm)
     (result : Result V value.Refusal)
     → IfOk result (λ v. items v ≡ algorithms) → IfErr result (λ e. shown e ≡ out_of_memory) → AreFor b b.regions files (map flm.shown algorithms)
@@ -175,20 +175,20 @@ pub gathered : {V : Type 0} (items : V → List Algorithm) (b : board.Shown) (fi
 gathered items b files algorithms (Ok v) ok err are = subst (λ (l : List Algorithm). AreFor b b.regions files (map flm.shown l)) (sym ok) are
 gathered items b files algorithms (Err e) ok err are = subst (λ (r : Refusal). AreFlmRefusal b files r) (sym err) tt
 
--- no FLM files
+-- there are no FLM files
 pub none_for : (b : board.Shown) (regions : List Region) (files : List (List ℕ)) → length files ≡ 0 → AreFor b regions files []
 none_for b [] [] none = tt
 none_for b (region ∷ regions) [] none = tt
 none_for b regions (file ∷ files) none = absurd (omega (arith, none))
 
--- one for the one region
+-- there is one algorithm, for the one region
 pub one_is_for : (b : board.Shown) (region : Region) (file : List ℕ) (others : List (List ℕ)) (algorithm : flm.Shown) → b.regions ≡ region ∷ [] → others ≡ []
     → IsOneFor b region file algorithm → AreFor b b.regions (file ∷ others) (algorithm ∷ [])
 one_is_for b region file others algorithm is none one =
     subst (λ (fs : List (List ℕ)). AreFor b b.regions (file ∷ fs) (algorithm ∷ [])) (sym none)
     (subst (λ (rs : List Region). AreFor b rs (file ∷ []) (algorithm ∷ [])) (sym is) (one, tt))
 
--- one for each of two
+-- there is an algorithm for each of two regions
 pub two_are_for : (b : board.Shown) (region other : Region) (file : List ℕ) (others : List (List ℕ)) (second : List ℕ) (x y : flm.Shown)
     → b.regions ≡ region ∷ other ∷ [] → others ≡ second ∷ [] → IsOneFor b region file x → IsOneFor b other second y
     → AreFor b b.regions (file ∷ others) (x ∷ y ∷ [])

@@ -20,11 +20,11 @@ use Rattle.command_line.specs.Scan.{Text, dashes}
 abbrev pub rules : List Rule
 rules = filled_from 1 (raw_rule ∷ names_rule ∷ [])
 
--- what is built of a command of this name
+-- what `clap` builds for a command of this name
 abbrev pub built_as : Text → Shape
 built_as name = built_leaf (inherited (with_leaf_noted (marked_built tool.top)) (leaf name).top)
 
--- one of them: the name changes nothing in its walk
+-- a command as an example: the name changes nothing in the walk
 abbrev pub sample : Shape
 sample = built_as (codes "verify")
 
@@ -62,9 +62,9 @@ pub told-other : (id id2 : Text) (how : Reading) (s : ValueSource) (vs : List Te
 told-other id id2 how s vs [] differ = rw differ refl
 told-other id id2 how s vs (r ∷ rs) differ = told_other_at id id2 how s vs r rs differ (told-other id id2 how s vs rs differ)
 
--- Where the walk stands.
+-- The state of the walk.
 
--- what waits to be settled: nothing, positional words, or an address
+-- what isn't settled yet: nothing, positional words, or an address
 pub data Stage : Type 0 where
   none : Stage
   name : List Text → Text → Stage
@@ -89,7 +89,7 @@ walk_at trailing st rows = record {
   stopped = None;
 }
 
--- after `--raw-at`
+-- the walk after `--raw-at`
 abbrev pub wants_at : Bool → List Row → Walk
 wants_at trailing rows = record {
   held = record { rows = rows; pending = Some (codes "raw-at", []); skip = 0 };
@@ -122,7 +122,7 @@ next_rows none rows = rows
 next_rows (name vs v) rows = rows
 next_rows (raw v) rows = settled_at (raw v) rows
 
--- how many values wait
+-- how many values aren't settled yet
 abbrev pub width : Stage → ℕ
 width none = 0
 width (name vs v) = length vs + 1
@@ -138,7 +138,7 @@ given : (vs : List Text) (v : Text) → values_or_missing names_built (vs ++ v �
 given [] v = refl
 given (x ∷ vs) v = refl
 
--- settling moves what waits into the rows
+-- settling moves these values into the rows
 pub told-raws : (st : Stage) (rows : List Row) → told (codes "raw-at") (settled_at st rows) ≡ raws_at st rows
 told-raws none rows = refl
 told-raws (name vs v) rows = rw (given vs v) (told-other (codes "names") (codes "raw-at") _ _ (vs ++ v ∷ []) rows refl)
@@ -159,7 +159,7 @@ names-next none rows w = refl
 names-next (name vs v) rows w = sym (append_assoc (told (codes "names") rows) (vs ++ v ∷ []) (w ∷ []))
 names-next (raw v) rows w = ap (λ (ns : List Text). ns ++ w ∷ []) (told-names (raw v) rows)
 
--- any value passes
+-- any value is accepted
 passes_all : (xs : List Text) → values_fault names_built xs ≡ []
 passes_all [] = refl
 passes_all (x ∷ xs) = passes_all xs
@@ -171,7 +171,7 @@ counted n xs e some fits =
     let not_many : nat_lt usize_max n ≡ false = grind (arith, nat_tests) in
     rw (not_none, not_few, not_many) refl
 
--- what waits settles without fault
+-- the values settle without a fault
 pub settles : (st : Stage) (rows : List Row) → width st ≤ usize_max
     → settle_fault rules false (record { rows = rows; pending = pending_at st; skip = 0 }) ≡ []
 settles none rows fits = refl
@@ -220,7 +220,7 @@ dashes_fault none rows w d = rw d refl
 dashes_fault (name vs v) rows w d = rw d refl
 dashes_fault (raw v) rows w d = rw d refl
 
--- `--raw-at=ADDR`
+-- a word `--raw-at=ADDR`
 pub attached_step : (st : Stage) (rows : List Row) (w nm v : Text) → bytes_eq w dashes ≡ false → long_of w ≡ Some (nm, Some v)
     → bytes_eq (codes "raw-at") nm ≡ true
     → walked rules [] (walk_at false st rows) w ≡ walk_at false none (settled_at (raw v) (settled_at st rows))
@@ -236,7 +236,7 @@ attached_fault none rows w nm v fits d l n = rw (d, l, n) refl
 attached_fault (name vs u) rows w nm v fits d l n = rw (d, l, n, settles (name vs u) rows fits) refl
 attached_fault (raw u) rows w nm v fits d l n = rw (d, l, n) refl
 
--- `--raw-at`
+-- the word `--raw-at`
 pub wants_step : (st : Stage) (rows : List Row) (w nm : Text) → bytes_eq w dashes ≡ false → long_of w ≡ Some (nm, None) → bytes_eq (codes "raw-at") nm ≡ true
     → walked rules [] (walk_at false st rows) w ≡ wants_at false (settled_at st rows)
 unfolding walked

@@ -42,7 +42,7 @@ faults_from w words = or_else (walk_fault sample [] w words) (end_fault (fold (w
 abbrev pub rows_from : Walk → List Text → List Row
 rows_from w words = finished rules (fold (walked rules []) w words).held
 
--- a walk with what the scan says
+-- a walk gives what the scan says
 abbrev pub Tells : Option Said → Kinds → List Row → Type 0
 Tells None faults rows = faults ≢ []
 Tells (Some p) faults rows = (faults ≡ []) × (told (codes "raw-at") rows ≡ p.0) × (told (codes "names") rows ≡ p.1)
@@ -94,7 +94,7 @@ told_so : (now : Walk) (ws : List Text) (o p : Option Said) → o ≡ p → Tell
     → Tells p (faults_from now ws) (rows_from now ws)
 told_so now ws o p e h = subst (λ x. Tells x (faults_from now ws) (rows_from now ws)) e h
 
--- after `--`
+-- the words after `--`
 pub trail : (ws : List Text) (st : Stage) (rows : List Row) → width st + length ws ≤ usize_max
     → Tells (Some (raws_at st rows, names_at st rows ++ ws)) (faults_from (walk_at true st rows) ws) (rows_from (walk_at true st rows) ws)
 trail [] st rows fits = rw (append-nil (names_at st rows)) (at_end true st rows (omega arith))
@@ -109,7 +109,7 @@ trail (w ∷ ws) st rows fits =
     (trailing_fault st rows w) (trailing_step st rows w)
     (told_so (walk_at true (next_stage st w) (next_rows st rows)) ws _ _ same more)
 
--- a word before `--`, by what it begins with
+-- a word before `--`, by its first bytes
 abbrev pub Short : Text → Type 0
 Short w = (flags : Text) → short_of w ≡ Some flags → (x : ℕ) × (slice_get (chars flags) 0 ≡ Some x)
 
@@ -117,7 +117,7 @@ abbrev pub Shorts : List Text → Type 0
 Shorts [] = Unit {0}
 Shorts (w ∷ ws) = Short w × Shorts ws
 
--- what the words after this one give, from each place where the walk may stand
+-- what the words after this one give, from each state of the walk
 abbrev pub FreeAfter : List Text → Type 0
 FreeAfter ws = (st : Stage) (rows : List Row) → width st + length ws ≤ usize_max
     → Tells (scan (raws_at st rows) (names_at st rows) ws) (faults_from (walk_at false st rows) ws) (rows_from (walk_at false st rows) ws)
@@ -127,7 +127,7 @@ WantsAfter ws = (rows : List Row) → length ws ≤ usize_max
     → Tells (scan_address (told (codes "raw-at") rows) (told (codes "names") rows) ws) (faults_from (wants_at false rows) ws)
     (rows_from (wants_at false rows) ws)
 
--- one word from where nothing or a finished value waits
+-- one word, when nothing or only finished values aren't settled yet
 free_attached : (st : Stage) (rows : List Row) (w nm v : Text) (ws : List Text) (b : Bool) → b ≡ bytes_eq (codes "raw-at") nm → bytes_eq w dashes ≡ false
     → long_of w ≡ Some (nm, Some v)
     → width st + length (w ∷ ws) ≤ usize_max → FreeAfter ws

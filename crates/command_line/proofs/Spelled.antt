@@ -1,4 +1,4 @@
--- How words are spelled that are an option, and those that are none.
+-- How words are written that are an option, and those that are none.
 use Rattle.std.proofs.Common.{◌≡◌, ◌==◌, ◌++◌, ◌∷◌, ◌<◌, [], ℕ, true, false, codes, length, slice_index, Option, Some, None, refl, ap, sym, ◌∙◌, suc, ◌+◌}
 use Rattle.std.proofs.Common.{arith, inl, inr}
 use Rattle.std.proofs.lemmas.Bool.{cases_Bool, eqb-true}
@@ -33,7 +33,7 @@ value_text t p v e has =
       | inr miss ↦ let bad : None ≡ Some v = (rw miss at second) ∙ has in cc
     ]
 
--- a text without `=` is all that stands before it
+-- a text without `=` is the whole part before it
 no_byte : (t : Text) → has_byte 61 t ≡ false → before_first (λ x. x == 61) t ≡ t
 no_byte [] e = refl
 no_byte (x ∷ xs) e = elim (cases_Bool (x == 61)) [
@@ -84,14 +84,14 @@ long_text (x ∷ y ∷ ys) p e = elim (cases_Bool (x == 45)) [
   | inr miss ↦ let bad : None ≡ Some p = rw miss at e in cc
 ]
 
--- the flag alone
+-- the flag without a value
 pub flag_is : (w : Text) (nm : Text) → long_of w ≡ Some (nm, None) → bytes_eq (codes "raw-at") nm ≡ true → w ≡ codes "--raw-at"
 flag_is w nm e named =
     let long = long_text w (nm, None) e in
     let name : codes "raw-at" ≡ nm = (bytes_eq-Decides (codes "raw-at") nm).0 named in
     long.word_is ∙ ap (λ (r : Text). 45 ∷ 45 ∷ r) (name_text long.rest (nm, None) long.parts refl ∙ sym name)
 
--- the flag with its value in the word
+-- the flag with its value in the same word
 pub attached_is : (w nm v : Text) → long_of w ≡ Some (nm, Some v) → bytes_eq (codes "raw-at") nm ≡ true → w ≡ codes "--raw-at=" ++ v
 attached_is w nm v e named =
     let long = long_text w (nm, Some v) e in
@@ -100,13 +100,13 @@ attached_is w nm v e named =
 
 -- Words that are no option.
 
--- what `clap` finds in such a word
+-- what `clap` finds in a word that is no option
 pub record IsUnflagged (w : Text) : Type 0 where
   pub others : bytes_eq w dashes ≡ false
   pub long : long_of w ≡ None
   pub short : short_of w ≡ None
 
--- a word of at most one byte, or with another first byte than a hyphen
+-- a word of at most one byte, or with a first byte other than a hyphen
 pub unflagged : (w : Text) → (slice_index w 0 ≡ 45 → 1 < length w → ⊥) → IsUnflagged w
 unflagged [] plain = record { others = refl; long = refl; short = refl }
 unflagged (x ∷ []) plain = elim (cases_Bool (x == 45)) [

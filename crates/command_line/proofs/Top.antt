@@ -19,7 +19,7 @@ use Rattle.command_line.proofs.Leaf.{rules, built_as, sample, none, walk_at}
 use Rattle.command_line.proofs.Shorts.{AreTexts-Shorts}
 use Rattle.command_line.proofs.LeafWalk.{Tells, Short, Shorts, free, faults_from, rows_from}
 
--- a command with its rows
+-- the walk gives this command with its rows
 abbrev pub TellsAll : Option (Text × List Text × List Text) → Kinds → Option (Text × List Row) → Type 0
 TellsAll None faults sub = faults ≢ []
 TellsAll (Some p) faults sub = (faults ≡ []) × (rows : List Row) × (sub ≡ Some (p.0, rows)) × (told (codes "raw-at") rows ≡ p.1)
@@ -31,7 +31,7 @@ top = (built tool).top
 abbrev names : Names
 names = names_of (built tool)
 
--- where the walk has met a command
+-- the walk after it met a command
 abbrev met : Text → List Text → Walk
 met c ws = record (walk_from nothing_held) { stopped = Some (c, ws) }
 
@@ -78,7 +78,7 @@ told_all : (c : Text) (said : Option Said) (f f' : Kinds) (rows : List Row) (sub
 told_all c None f f' rows sub e d h = rw e h
 told_all c (Some p) f f' rows sub e d h = (e ∙ h.0, rows, d, h.1, h.2)
 
--- what comes after the walk
+-- the faults after the walk
 abbrev rest : Walk → Kinds
 rest end = or_else (entered_fault (built tool) end.stopped) (or_else (settle_fault [] false end.held)
     (or_else (defaults_fault (settled [] end.held).rows []) (check_fault top (finished [] end.held) (is_some (entered (built tool) end.stopped)))))
@@ -148,7 +148,7 @@ known_demo : IsKnown (codes "demo")
 unfolding defaults_fault
 known_demo = (λ ws. rw (same_walk (codes "demo") (walk_at false none []) ws) (or_else-nil (faults_from (walk_at false none []) ws)), λ ws. refl)
 
--- this holds of each of the names
+-- P holds of each of the names
 abbrev Each : (Text → Type 0) → List Text → Type 0
 Each P [] = Unit {0}
 Each P (n ∷ ns) = P n × Each P ns
@@ -206,7 +206,7 @@ known c w ws t e r sub said tells =
     ap (λ (x : Walk). entered (built tool) x.stopped) end ∙ sub in
     told_all c said _ _ _ _ faults entry tells
 
--- a first word that doesn't
+-- a first word that names no command
 refused : (k : ErrorKind) (ks : Kinds) (w : Text) (ws : List Text) → turn_fault top names (walk_from nothing_held) w ≡ k ∷ ks → fault_of tool (w ∷ ws) ≢ []
 refused k ks w ws t = rw (split w ws, t) (λ e. cc)
 
@@ -249,7 +249,7 @@ first_word w ws (Some c) e short shorts fits =
     known c w ws (found_turn names w c here) (found_step names w c here) (known_c.0 ws) (known_c.1 ws) (scan [] [] ws) (free ws shorts none [] (omega arith))
 first_word w ws None e short shorts fits = unknown w ws (met_is w ∙ sym e) short
 
--- the words are taken exactly where they say something
+-- `clap` accepts the words exactly if they say something
 pub taken : (words : List Text) → Shorts words → length words ≤ usize_max → TellsAll (says words) (fault_of tool words) (subcommand_of tool words)
 taken [] shorts fits = none_fault
 taken (w ∷ ws) shorts fits = first_word w ws (command_of w) refl shorts.0 shorts.1 (omega arith)
@@ -262,10 +262,10 @@ refuses : (o : Option (Text × List Text × List Text)) (f : Kinds) (sub : Optio
 refuses None f sub h n = refl
 refuses (Some p) f sub h n = absurd (n h.0)
 
--- words that are taken are read as they say
+-- words that `clap` accepts are read as what they say
 pub asked_is : (words : List Text) → AreTexts words → length words ≤ usize_max → fault_of tool words ≡ [] → asked (subcommand_of tool words) ≡ says words
 asked_is words texts fits e = agrees (says words) _ _ (taken words (AreTexts-Shorts words texts) fits) e
 
--- words that are refused say nothing
+-- words that `clap` refuses say nothing
 pub says_none : (words : List Text) → AreTexts words → length words ≤ usize_max → fault_of tool words ≢ [] → says words ≡ None
 says_none words texts fits n = refuses (says words) _ _ (taken words (AreTexts-Shorts words texts) fits) n

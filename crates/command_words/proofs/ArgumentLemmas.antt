@@ -37,7 +37,7 @@ in_parts words n less = sym (take-append-drop n words) ∙ ap (λ (l : Words). t
 
 -- Positional words.
 
--- words without an option stand before others
+-- words without an option come before the others
 pub positional_before : (before words names : Words) → HasNoOption before → Positional words names → Positional (before ++ words) (before ++ names)
 positional_before before words names plain positional = ⊎_elim
     (λ (all : AllPositional words names). inl (record {
@@ -59,7 +59,7 @@ pub record IsBehind (before words names : Words) : Type 0 where
   pub positional : Positional words rest
   pub names_are : names ≡ before ++ rest
 
--- one word less before them
+-- the words after the first one
 word_less : (x : List ℕ) (words names : Words) → IsPlain x → Positional (x ∷ words) names → IsBehind (x ∷ []) words names
 word_less x words names plain positional = ⊎_elim
     (λ (all : AllPositional (x ∷ words) names). record {
@@ -93,7 +93,7 @@ positional_behind (x ∷ before) words names plain positional =
 
 -- Addresses.
 
--- a word is one address
+-- a word is at most one address
 pub one_address : (word : List ℕ) (a b : ℕ) → IsAddress word a → IsAddress word b → a ≡ b
 one_address word a b one two = ⊎_elim
     (λ (one : IsHexadecimal word a). ⊎_elim

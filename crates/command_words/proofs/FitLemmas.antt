@@ -1,4 +1,4 @@
--- What lines make of a command, by their addresses and their positional words.
+-- The command that a line asks for, by its addresses and its positional words.
 use Rattle.std.proofs.Common.{◌≡◌, ◌<◌, ◌≤◌, ◌+◌, ◌-◌, ◌^◌, ap, subst, refl, arith, rules, ℕ, List, [], ◌∷◌, ◌++◌, length, get_or, take, drop, Option, Some}
 use Rattle.std.proofs.Common.{None, IsSome, MatchOption, IfNone, option_to_list}
 use Rattle.std.proofs.lemmas.List.{take_all}
@@ -29,7 +29,7 @@ gift_none : (addresses : Words) → length addresses ≡ 0 → Gives addresses N
 gift_none [] none = tt
 gift_none (x ∷ rest) none = absurd (omega (arith, none))
 
--- names as the code takes them apart
+-- the names, as the code takes them apart
 
 pub one_front : (names : Words) (first : List ℕ) → 1 ≤ length names → first ≡ get_or names 0 first → names ≡ first ∷ take (length names - 1) (drop 1 names)
 one_front [] first least is = absurd (omega (arith, least))
@@ -114,7 +114,7 @@ module _ (others addresses names : Words) (spells : scan [] [] others ≡ Some (
   pub no_address : (given : Words) → Positional others given → length addresses ≡ 0
   no_address given positional = no_gift addresses (arguments_given others addresses names spells None given positional).gives
 
-  -- the names themselves
+  -- the positional words are the line's names
   pub the_names : (given : Words) → Positional others given → names ≡ given
   the_names given positional = (arguments_given others addresses names spells None given positional).names_are
 

@@ -18,9 +18,9 @@ use Rattle.command_words.proofs.WordsLemmas.{AsksNothing-unknown, Asked-fitted}
 abbrev Words : Type 0
 Words = List (List ℕ)
 
--- What a line says of its words.
+-- What a line says about its words.
 
--- a word names the command that it was found to name
+-- a word that was found among the names is that name
 found_word : (w c : List ℕ) (names : Words) → find (λ n. bytes_eq n w) names ≡ Some c → w ≡ c
 found_word w c [] e = cc
 found_word w c (n ∷ names) e = elim (cases_Bool (bytes_eq n w)) [
@@ -28,7 +28,7 @@ found_word w c (n ∷ names) e = elim (cases_Bool (bytes_eq n w)) [
   | inr miss ↦ let later : find (λ m. bytes_eq m w) names ≡ Some c = rw miss at e in found_word w c names later
 ]
 
--- the words are this command and others, which are read so
+-- the words are this command and others, which are read as these addresses and names
 record IsSaid (words : Words) (c : List ℕ) (addresses names : Words) : Type 0 where
   pub others : Words
   pub words_are : words ≡ c ∷ others

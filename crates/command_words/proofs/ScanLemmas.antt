@@ -107,9 +107,9 @@ arguments_read words (Some at) names has =
           ∙ ap (λ (n : Words). Some (option.address ∷ [], n)) (sym behind.names_are);
     }
 
--- What words are that were read so.
+-- What words are that were read in this way.
 
--- with one address that is written so the words have the option; more are more than they may have
+-- with one valid address the words have the option once; with more addresses they have too many
 abbrev Reads : Words → Words → Words → Type 0
 Reads ws [] names = Positional ws names
 Reads ws (address ∷ []) names = (at : ℕ) → IsAddress address at → HasRawAt ws at names
@@ -141,7 +141,7 @@ reads_option option a ws [] names is reads = λ at address. record {
 }
 reads_option option a ws (b ∷ rest) names is reads = tt
 
--- with these addresses and names before them
+-- the words are read after these addresses and names
 record IsRead (ws raws names : Words) (said : Said) : Type 0 where
   pub addresses : Words
   pub more : Words
@@ -192,7 +192,7 @@ read_dashes raws names w ws said d e =
       });
     }
 
--- one option more
+-- one more option
 read_more : (raws names : Words) (option : Words) (a : List ℕ) (ws : Words) (said : Said) → ((at : ℕ) → IsAddress a at → IsRawAt option at)
     → IsRead ws (raws ++ a ∷ []) names said → IsRead (option ++ ws) raws names said
 read_more raws names option a ws said is read = record {
@@ -291,7 +291,7 @@ module _ (words addresses names : Words) (scans : scan [] [] words ≡ Some (add
         names_are = ap (λ (s : Said). s.1) same;
       }
 
--- the words give one address at most
+-- the words give at most one address
 pub one_given : (addresses : Words) (a b : Option ℕ) → Gives addresses a → Gives addresses b → a ≡ b
 one_given [] None None one two = refl
 one_given [] None (Some b) one two = absurd two

@@ -45,7 +45,7 @@ IsCalled (inspect flm) name = name ≡ Inspect
 IsCalled (dump form board) name = name ≡ Dump
 IsCalled (demo seed) name = name ≡ Demo
 
--- `other` is what stands in place of a first word, where there is none
+-- `other` stands for the first word where there is none
 module _ (words : List (List ℕ)) (other : List ℕ) where
   -- the command of the first word
   abbrev first_name : CommandName
@@ -147,7 +147,7 @@ same_seed words a b one two =
     (subst (λ (w : List (List ℕ)). Positional w (one.number.word ∷ [])) same one.number.one) two.number.one in
     let x = one.number.decimal.value in let y = two.number.decimal.value in cc
 
--- a word is of one form
+-- a word names at most one format
 same_form : (f g : TextForm) → form_text f ≡ form_text g → f ≡ g
 same_form Hex Hex same = refl
 same_form Hex Srec same = absurd (cc)
@@ -168,7 +168,7 @@ same_record : (r r' : Option ℕ) (b b' : List ℕ) (f f' : Option (List ℕ)) (
     → ◌≡◌ {A = FilesAsked} (record { raw_at = r; board = b; flm = f; images = i }) (record { raw_at = r'; board = b'; flm = f'; images = i' })
 same_record r r' b b' f f' i i' r_is b_is f_is i_is = cc
 
--- a board and images are the same ones
+-- a board and images are the only ones that these words give
 same_files : (words : List (List ℕ)) (a b : FilesAsked) → HasBoardAndImages words a → HasBoardAndImages words b → a ≡ b
 same_files words a b one two =
     let same = one_arguments words a.raw_at b.raw_at (a.board ∷ a.images) (b.board ∷ b.images) one.arguments two.arguments in
@@ -223,7 +223,7 @@ one_command words (demo a) (demo b) one two = ap demo (same_seed words a b one t
 one_command words a b one two =
     absurd (let called_one = called words [] a one in let called_other = called words [] b two in let no : ⊥ = cc in no)
 
--- what words ask for is one thing
+-- words ask for at most one thing
 pub one_asked : (words : List (List ℕ)) (a b : Option Command) → Asked words a → Asked words b → a ≡ b
 one_asked words None None one two = refl
 one_asked words None (Some b) one two = absurd (one b two)

@@ -1,4 +1,4 @@
--- What the chosen plan costs as a list. `LawLemmas` compares it with any other list.
+-- The cost of the chosen plan as a list of actions. `LawLemmas` compares it with any other list.
 use Rattle.std.proofs.Common.{◌≡◌, ℕ, zero, suc, ◌+◌, ◌*◌, Bool, true, false, nat_lt, cond, refl, ap, subst, arith, ◌∙◌, List, [], ◌∷◌, ◌++◌, map, length, inl}
 use Rattle.std.proofs.Common.{inr, zero-add}
 use Rattle.std.proofs.lemmas.Bool.{cases_Bool, and_parts}
@@ -57,7 +57,7 @@ chip_alone : (w : Weights) → cost w (EraseChip ∷ []) ≡ w.chip
 unfolding cost price
 chip_alone w = omega arith
 
--- what the chosen plan costs as a list
+-- the cost of the chosen plan as a list of actions
 pub chosen_cost : (l : Geometry) (w : Weights) (has_chip : Bool) (empty : ℕ) (cells want : List ℕ) →
     cost w (actions_of l want (chosen l w has_chip empty cells want)) ≡ (chosen l w has_chip empty cells want).cost
 unfolding chosen takes_chip by_chip by_sectors actions_of sectors_cost chip_cost

@@ -1,4 +1,4 @@
--- What one more byte does to the marks. `feed_marks` goes on by them.
+-- What one more byte does to the marks, for `feed_marks`.
 use Rattle.std.proofs.Common.{get_or-set_same, get_or-set_other, ◌≡◌, ℕ, ◌+◌, ◌-◌, ◌<◌, Bool, true, false, not, ◌||◌, nat_eq, refl, sym, ap, subst, arith}
 use Rattle.std.proofs.Common.{slice_index, ◌∙◌, List, [], ◌∷◌, ◌++◌, length, get_or, set, inl, inr}
 use Rattle.std.proofs.Math.ListN.{length-set}
@@ -89,7 +89,7 @@ module _ (l : Geometry) (empty : ℕ) (old want : List ℕ) (n x y : ℕ) (old_l
       let c = more_outside r n (λ i. not (nat_eq (slice_index want i) empty)) (λ i. not (nat_eq (slice_index (want ++ y ∷ []) i) empty)) h same_want in
       rw (pushed_long old n x old_long, pushed_long want n y want_long, old_long, want_long, a, b, c) refl
 
-  -- one more byte changes the mark of its page alone
+  -- one more byte changes only the mark of its page
   pub marks_more : IsGeometry l → (marks : List Mark) → AreMarks l empty old want marks → (page : ℕ) → page < length l.pages → In n (range_at l.pages page)
       → AreMarks l empty (old ++ x ∷ []) (want ++ y ∷ []) (set marks page (marked (mark_at marks page)))
   marks_more good marks m page h inside =

@@ -1,4 +1,4 @@
--- No list of actions costs less than the chosen plan. It is the second half of `LawLemmas`: `ReachLemmas` has the first.
+-- No list of actions costs less than the chosen plan. This is the second half of `LawLemmas`; `ReachLemmas` is the first.
 use Rattle.std.proofs.Common.{◌≡◌, ℕ, ◌+◌, ◌*◌, ◌<◌, ◌≤◌, Bool, true, false, nat_eq, nat_lt, refl, sym, arith, slice_index, ◌∙◌, List, [], ◌∷◌, length, inl}
 use Rattle.std.proofs.Common.{inr}
 use Rattle.std.proofs.lemmas.Bool.{false≢true, cases_Bool, both_ways, ltb-true, ltb-false, cond-true, cond-false, and_parts}
@@ -15,7 +15,7 @@ use Rattle.page_geometry.proofs.GeometryLemmas.{page_within}
 use Rattle.erase_planner.proofs.NeedLemmas.{erases, programs, kept, stays_empty, erased_empty, chip_empty}
 use Rattle.erase_planner.proofs.SetLemmas.{must_erase_at, must_erase_from, is_erased_at, is_erased_from, once_at}
 
--- ---- how many actions of each kind
+-- ---- the number of actions of each kind
 
 unfoldable sector_erasures : List Action → ℕ
 sector_erasures [] = 0

@@ -1,4 +1,4 @@
--- The chosen plan: that it leads to the wanted contents, what it costs, and that no list costs less.
+-- The chosen plan: it leads to the wanted contents, what it costs, and no list of actions costs less.
 pub mod NeedLemmas
 pub mod SetLemmas
 pub mod LeastLemmas

@@ -1,4 +1,4 @@
--- What a list of actions needs: what stays, and what is empty in the end, without an erasure or a write.
+-- What a list of actions needs: without an erasure or a write some cells stay, and some are empty in the end.
 use Rattle.std.proofs.Common.{◌≡◌, ℕ, ◌<◌, Bool, true, false, ◌||◌, nat_eq, sym, ap, subst, arith, slice_index, ◌∙◌, List, [], ◌∷◌, length, inl, inr}
 use Rattle.std.proofs.lemmas.Bool.{false≢true, true≢false, or_cases, or_parts, eqb-true, eqb-false}
 use Rattle.flm_descriptor.specs.Shape.{range_at}
@@ -23,7 +23,7 @@ programs p (EraseChip ∷ rest) = programs p rest
 programs p (ProgramPage q bytes ∷ rest) = nat_eq p q || programs p rest
 
 module _ (l : Geometry) (good : IsGeometry l) (empty : ℕ) (want : List ℕ) where
-  -- a page of a sector that isn't erased, and that isn't empty, stays to the end
+  -- a page that isn't empty stays to the end if its sector isn't erased
   pub kept : (actions : List Action) (cells : List ℕ) (s p i : ℕ) → Leads l empty cells actions want → erases_chip actions ≡ false → erases s actions ≡ false
       → Within (range_at l.pages p) (range_at l.sectors s) → In i (range_at l.pages p) → (slice_index cells i ≡ empty → ⊥)
       → (j : ℕ) → In j (range_at l.pages p) → slice_index cells j ≡ slice_index want j
@@ -80,7 +80,7 @@ module _ (l : Geometry) (good : IsGeometry l) (empty : ℕ) (want : List ℕ) wh
       let parts = or_parts (nat_eq p q) (programs p rest) np in
       erased_empty rest x.0 s p x.2 (x.1.4.0 ∙ n) hp ye parts.1 w
 
-  -- where the chip is erased, a page that isn't programmed is empty in the end
+  -- if the chip is erased, a page that isn't programmed is empty in the end
   pub chip_empty : (actions : List Action) (cells : List ℕ) (p : ℕ) → Leads l empty cells actions want → length cells ≡ l.size → p < length l.pages →
       erases_chip actions ≡ true → programs p actions ≡ false
       → IsEmpty empty (range_at l.pages p) want

@@ -1,4 +1,4 @@
--- The sets of the chosen plan, element by element. The code fills the sets, and the lemmas on plans look their elements up.
+-- The sets of the chosen plan, element by element, for the code that fills them and the lemmas that look elements up.
 use Rattle.std.proofs.Common.{◌≡◌, ℕ, ◌<◌, true, ◌&&◌, nat_le, nat_lt, cond, slice_index, List, length, zero-add}
 use Rattle.std.proofs.lemmas.Bool.{and_from, and_parts, le-leb, leb-true, lt-ltb, ltb-true}
 use Rattle.std.proofs.lemmas.List.FromFn.{get_or-map-range_with_len}

@@ -1,4 +1,4 @@
--- A register answers a load of its word, whatever the cells are; and registers that are fresh.
+-- A register answers a load of its word, whatever the cells are. Also what fresh registers are.
 use Rattle.std.proofs.Common.{◌≡◌, ◌<◌, ◌≤◌, ◌+◌, ◌-◌, ℕ, Bool, true, false, List, Option, Some, None, IfSome, Result, Ok, refl, ap, sym, arith, ◌∙◌}
 use Rattle.std.proofs.lemmas.Bool.{le-leb, lt-ltb}
 use Rattle.bench_model.specs.declared.bench_fault.BusEnd.{BusEnd}
@@ -35,7 +35,7 @@ register_peeks t map s offset within (Some value) is =
     λ cells. one_load t map s (map.base + offset) (omega arith) (omega (arith, within)) value cells
     (is ∙ ap (λ (n : ℕ). t.load s.registers s.operation n) there)
 
--- fresh registers while no operation runs
+-- fresh registers, while no operation runs
 pub fresh_is : {R : Type 0} (t : Table R) (kind : ControllerKind) (r : R) → r ≡ t.fresh kind →
     ◌≡◌ {A = State R} (record { registers = r; operation = None }) (fresh t kind)
 fresh_is {R} t kind r is = ap (λ (x : R). let s : State R = record { registers = x; operation = None } in s) is

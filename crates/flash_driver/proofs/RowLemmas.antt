@@ -1,4 +1,4 @@
--- No row of a table is a device fault, so a load ends in one only where it looks at cells; and the rows, by the place of an access.
+-- No row of a table is a device fault, so a load ends with one only if it looks at cells. Also the rows, by the place of an access.
 use Rattle.std.proofs.Common.{◌≡◌, ℕ, Bool, true, false, if◌then◌else◌, List, [], Option, Some, None, Result, Ok, Err, refl, sym, ap, ◌∙◌}
 use Rattle.std.proofs.Common.{◌≤◌, ◌+◌, ◌%◌, ◌⊎◌, ⊎_elim, inr, subst, not, ◌&&◌, is_some, arith}
 use Rattle.std.proofs.lemmas.Bool.{false≢true}
@@ -77,7 +77,7 @@ pub bus_store_fine : {R : Type 0} (t : Table R) (map : FlashMap) (s : State R) (
     is_device (bus_store t map s cells at width value).0 ≡ false
 bus_store_fine t map s cells at width value = quiet_fine tt (in_quiet map.quiet at) _ (store_row_fine t map s cells at width value)
 
--- what is a row wherever no cell is looked at, and is a device fault, looked at cells
+-- an answer that is the row unless cells are looked at: if it is a device fault, cells were looked at
 looked : (looks : Bool) (row result : Result ℕ BusEnd) → is_device row ≡ false → (looks ≡ false → result ≡ row) → is_device result ≡ true → looks ≡ true
 looked true row result fine elsewhere fault = refl
 looked false row result fine elsewhere fault = absurd (false≢true (sym fine ∙ sym (ap is_device (elsewhere refl)) ∙ fault))
@@ -92,7 +92,7 @@ pub idle_range : (o : Option Operation) → is_some o ≡ false → range_of o �
 idle_range None idle = refl
 idle_range (Some o) idle = absurd (false≢true (sym idle))
 
--- an access to a cell that was found lies in the cells
+-- an access to a cell that was found lies among the cells
 pub found_fits : (areas : List Area) (at width : ℕ) (f : Found) → IsWidth width → at % width ≡ 0 → FoundInside areas at f → f.place + width ≤ cells_in areas
 found_fits areas at width f is aligned inside = ⊎_elim
     (λ (one : width ≡ 1). omega (arith, one, inside.byte))
@@ -102,7 +102,7 @@ found_fits areas at width f is aligned inside = ⊎_elim
     more)
     is
 
--- The rows, from what the place is.
+-- The rows, by what the place is.
 
 module _ {R : Type 0} (t : Table R) (map : FlashMap) (s : State R) (cells : List ℕ) (at width : ℕ) where
   pub cell_load : (found : Found) (result : Result ℕ BusEnd) → place.Flash found ≡ place_of map at width → is_running s ≡ false →
@@ -132,7 +132,7 @@ module _ {R : Type 0} (t : Table R) (map : FlashMap) (s : State R) (cells : List
       (subst (λ (b : Bool). StoreGives (if b then (Err bus.Fault, s) else programmed t map s cells width value found) s (Err bus.Fault) s) (sym busy)
       (inr (refl, refl)))
 
-  -- a store there that doesn't compare looks at no cell
+  -- a store that doesn't compare looks at no cell
   pub unseen : (value : ℕ) (found : Found) → place.Flash found ≡ place_of map at width → is_running s ≡ false →
       compares t s width value (place_of map at width) ≡ false → t.looks s.registers found.area width value ≡ false
   unseen value found is idle none =
@@ -145,7 +145,7 @@ module _ {R : Type 0} (t : Table R) (map : FlashMap) (s : State R) (cells : List
   register_store value offset done result after is row gives = subst (λ (p : Place). StoreGives (store_at t map s cells width value p) s result after) is
       (subst (λ (x : Effect × R). StoreGives (leaves s x) s result after) row gives)
 
--- a store to a cell that looks at none
+-- a store to a cell that looks at no cell
 pub blind_store : {R : Type 0} (t : Table R) (map : FlashMap) (s : State R) (cells : List ℕ) (width value : ℕ) (found : Found) (done : Effect × R)
     (result : Result (Unit {0}) BusEnd) (after : State R) → t.looks s.registers found.area width value ≡ false →
     done ≡ t.program map s.registers found width value [] → StoreGives (leaves s done) s result after →

@@ -1,4 +1,4 @@
--- Ticks that ask no bench, where no operation runs or it has more than one tick left, and the tick that ends an operation.
+-- Ticks that call no bench, because no operation runs or it has more than one tick left; and the tick that ends an operation.
 use Rattle.std.proofs.Common.{◌≡◌, ◌<◌, ◌≤◌, ◌-◌, ℕ, Bool, true, false, IsTrue, is_some, List, [], Option, Some, None, refl, ap, sym, ◌∙◌}
 use Rattle.std.proofs.lemmas.Bool.{false≢true}
 use Rattle.bench_model.specs.Calls.{written}
@@ -33,7 +33,7 @@ pub lower_tick : {R : Type 0} (t : Table R) (s : State R) (cells : List ℕ) (ne
 lower_tick t s cells next true was lowers = lower t s cells next lowers
 lower_tick t s cells next false was lowers = absurd (false≢true was)
 
--- the tick that ends an operation: the state, and with it the cells
+-- the tick that ends an operation: the state and the cells after it
 pub last_tick : {R : Type 0} (t : Table R) (s : State R) (ended : R) (o : Operation) → ended ≡ t.ended s.registers → o.ticks ≤ 1 →
     (record { registers = ended; operation = None }) ≡ (tick_at (done t s) (running s) [] o o.ticks).0
 last_tick {R} t s ended o end few =

@@ -1,4 +1,4 @@
--- How accesses of a bench come one after the other, and which access or tick each call of it is.
+-- Accesses of a bench one after another, and the access or tick that each call of the bench is.
 use Rattle.std.proofs.Common.{◌≡◌, ◌+◌, ◌↔◌, ℕ, Bool, false, IsTrue, List, length, take, drop, Option, Some, None, Result, refl, sym, ap, subst, arith, ◌∙◌}
 use Rattle.std.proofs.Common.{◌⊎◌, inl, inr, ⊎_elim, true, Ok, Err}
 use Rattle.std.proofs.lemmas.Bool.{false≢true}
@@ -21,7 +21,7 @@ use Rattle.flash_driver.specs.declared.state.Effect.{Effect}
 use Rattle.flash_driver.specs.declared.state.Effect.TheVariants as effect
 use Rattle.flash_driver.specs.Table.{MayBegin}
 
--- what a stop leaves while no operation is open, it leaves whatever is open
+-- what a stop leaves while no operation is open, it may also leave while one is open
 none_in_any : (o : Option (ℕ × ℕ)) (cells c : List ℕ) → c ≡ cells → SameOutside o cells c
 none_in_any None cells c same = same
 none_in_any (Some range) cells c same = (ap length same, ap (λ (l : List ℕ). take range.0 l) same, ap (λ (l : List ℕ). drop (range.0 + range.1) l) same)
@@ -29,7 +29,7 @@ none_in_any (Some range) cells c same = (ap length same, ap (λ (l : List ℕ). 
 as_none : (o : Option (ℕ × ℕ)) (cells c : List ℕ) → o ≡ None → SameOutside o cells c → c ≡ cells
 as_none o cells c none same = subst (λ (x : Option (ℕ × ℕ)). SameOutside x cells c) none same
 
--- from an operation that stays, or from none, to the next
+-- what a stop leaves with an operation or none, it may leave if that operation stays or another one opens
 wider : (o p : Option (ℕ × ℕ)) (cells new c : List ℕ) → new ≡ cells → (p ≡ o) ⊎ (o ≡ None) → SameOutside o cells c → SameOutside p new c
 wider o p cells new c same step at =
     subst (λ (l : List ℕ). SameOutside p l c) (sym same) (⊎_elim
@@ -64,7 +64,7 @@ accesses_here tells s law = record {
   file = file_stays_here s;
 }
 
--- a look at cells, that was no fault, and then an access
+-- a look at cells without a fault, and then an access
 pub look_then : {A : Type 0} (tells : Bool) (map : FlashMap) (range : Option (ℕ × ℕ)) (s m t : BenchState) (result : Result A BusEnd)
     → (IsTrue tells → s.operation ≡ None) → Accesses tells s m → IsCounted s.device_faults m.device_faults false → Touches tells map range m t result
     → Touches tells map range s t result
@@ -83,7 +83,7 @@ look_then tells map range s m t result idle one cause two = record {
 abbrev pub Told : Bool → BenchState → Type 0
 Told tells s = (c : List ℕ) → IsTrue tells → left (cells_half s) c ↔ SameOutside s.operation s.cells c
 
--- an access that asks no bench and is no fault
+-- an access that calls no bench and is no fault
 pub touches_here : {A : Type 0} (tells : Bool) (map : FlashMap) (range : Option (ℕ × ℕ)) (s : BenchState) (result : Result A BusEnd) → Told tells s →
     Agrees tells map range s → is_device result ≡ false → Touches tells map range s s result
 touches_here tells map range s result law agrees fine = record {
@@ -151,7 +151,7 @@ opens_access tells s t at len result law idle does = record {
   file = does.file;
 }
 
--- a tick that asks no bench
+-- a tick that calls no bench
 pub ticks_here : (tells : Bool) (map : FlashMap) (range : Option (ℕ × ℕ)) (s : BenchState) → Told tells s → Agrees tells map range s →
     Ticks tells map range s s (Ok tt)
 ticks_here tells map range s law agrees = record {
@@ -165,7 +165,7 @@ ticks_here tells map range s law agrees = record {
   cause = record { later = omega arith; on_fault = λ fault. absurd (false≢true fault); on_ok = λ ok. refl };
 }
 
--- the opening of an operation, which is the one that a store begins
+-- the opening of the operation that a store begins
 pub opens_touch : (tells : Bool) (map : FlashMap) (runs : Option Operation) (e : Effect) (o : Operation) (len : ℕ) (s t : BenchState) (value : Unit {0})
     → e ≡ effect.Begins o → MayBegin (cells_in map.areas) runs e → len ≡ work_len o.work → Told tells t → Agrees tells map (range_of runs) s
     → OpensCells {T = Unit {0}} tells s t o.place len (Ok value) → Touches {A = Unit {0}} tells map (range_of (Some o)) s t (Ok tt)

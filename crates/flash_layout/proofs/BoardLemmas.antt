@@ -1,4 +1,4 @@
--- The areas and the sectors of a board's regions keep what a layout asks of them, and how they grow by one region.
+-- The areas and sectors of a board's regions satisfy what a layout requires, and how they grow by one region.
 use Rattle.std.proofs.Common.{◌≡◌, ◌<◌, ◌≤◌, ◌+◌, ◌*◌, ◌%◌, ◌^◌, ◌⊎◌, ℕ, zero, suc, true, List, [], ◌∷◌, ◌++◌, length, drop, get_or, IsTrue, refl, sym, ap}
 use Rattle.std.proofs.Common.{subst, ◌∙◌, append_assoc, arith}
 use Rattle.std.specs.Prelude.{sum_by}
@@ -16,7 +16,7 @@ use Rattle.flash_layout.proofs.SectorLemmas.{cells_cons}
 use Rattle.flash_layout.specs.declared.area.Area.{Area}
 use Rattle.flash_layout.specs.Areas.{area_of, areas_of, runs_of, area_fits, all_fit, cells_in}
 
--- the areas and the runs so far, with those of the regions that are left
+-- the areas and runs so far, and those of the regions that are left
 pub record Taken (regions : List Region) (i : ℕ) (areas : List Area) (runs : List SectorRun) : Type 0 where
   pub areas_so_far : areas ++ areas_of (drop i regions) ≡ areas_of regions
   pub runs_so_far : runs ++ runs_of (drop i regions) ≡ runs_of regions
@@ -126,7 +126,7 @@ pub some_area : (regions : List Region) → 0 < length regions → 0 < length (a
 some_area [] some = some
 some_area (r ∷ rest) some = omega arith
 
--- once no region is left, these are the areas and the sectors of all of them
+-- when no region is left, these are the areas and the sectors of all regions
 pub all_taken : (regions : List Region) (i : ℕ) (areas : List Area) (runs : List SectorRun) → drop i regions ≡ [] → Taken regions i areas runs
     → (areas ≡ areas_of regions) × (runs ≡ runs_of regions)
 all_taken regions i areas runs nil so_far = (
@@ -134,7 +134,7 @@ all_taken regions i areas runs nil so_far = (
   sym (append-nil runs) ∙ ap (λ (l : List Region). runs ++ runs_of l) (sym nil) ∙ so_far.runs_so_far,
 )
 
--- what a layout asks of its areas and sectors
+-- what a layout requires of its areas and sectors
 pub record LaysOut (areas : List Area) (runs : List SectorRun) : Type 0 where
   pub some_area : 0 < length areas
   pub areas_fit : IsTrue (all_fit areas)

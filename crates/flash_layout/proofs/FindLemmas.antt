@@ -1,4 +1,4 @@
--- Looking an address up: how the look-up goes on by one area, and where what it finds lies.
+-- Looking an address up: how the search continues by one area, and where the result lies.
 use Rattle.std.proofs.Common.{◌≡◌, ◌<◌, ◌≤◌, ℕ, ◌+◌, ◌-◌, ◌%◌, Bool, true, false, IsTrue, List, [], ◌∷◌, length, drop, get_or, Some, None, refl, sym, ap, subst}
 use Rattle.std.proofs.Common.{◌∙◌, arith, ◌⊎◌, inl, inr, ⊎_elim}
 use Rattle.std.proofs.lemmas.Bool.{and_parts}
@@ -27,7 +27,7 @@ counted_within areas i from d inside so_far =
 pub counted_all : (areas : List Area) (i from : ℕ) → drop i areas ≡ [] → Counted areas i from → from ≡ cells_in areas
 counted_all areas i from nil so_far = let none : cells_in (drop i areas) ≡ 0 = ap cells_in nil in omega (arith, so_far, none)
 
--- how far a loop over the areas has come
+-- what a loop over the areas has searched so far
 pub record Looked (areas : List Area) (at i from : ℕ) : Type 0 where
   pub same : find (drop i areas) from at ≡ find areas 0 at
   pub rest : Counted areas i from
@@ -63,7 +63,7 @@ looked_found areas at i from d inside hit so_far =
 pub looked_none : (areas : List Area) (at i from : ℕ) → drop i areas ≡ [] → Looked areas at i from → None ≡ find areas 0 at
 looked_none areas at i from nil so_far = sym (find_nil from at) ∙ sym (ap (λ (l : List Area). find l from at) nil) ∙ so_far.same
 
--- where the area that was found lies
+-- the place of the area that was found
 record Inside (areas : List Area) (from at : ℕ) (f : Found) : Type 0 where
   fits : IsTrue (area_fits f.area)
   above : f.area.base ≤ at
@@ -99,7 +99,7 @@ found_inside (a ∷ rest) from at f fit same =
     (λ (miss : holds a at ≡ false). inside_on a rest from at f (found_inside rest (from + a.size) at f both.1 (sym (find_cons a rest from at miss) ∙ same)))
     (bool_cases (holds a at))
 
--- what an area that fits keeps
+-- what holds of an area that fits
 record Fits (a : Area) : Type 0 where
   base : a.base % 4 ≡ 0
   size : a.size % 4 ≡ 0

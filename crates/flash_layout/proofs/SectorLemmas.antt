@@ -1,4 +1,4 @@
--- Looking a sector up by a cell of it: how the look-up goes on by one run, and where what it finds lies.
+-- Looking a sector up by one of its cells: how the search continues by one run, and where the result lies.
 use Rattle.std.proofs.Common.{◌≡◌, ◌<◌, ◌≤◌, ℕ, ◌+◌, ◌-◌, ◌*◌, ◌/◌, true, false, IsTrue, nat_lt, List, [], ◌∷◌, length, drop, get_or, Option, Some, None}
 use Rattle.std.proofs.Common.{option_map, IfSome, if◌then◌else◌, refl, sym, ap, subst, ◌∙◌, arith}
 use Rattle.std.specs.List.{list_all}
@@ -23,7 +23,7 @@ cells_cons r rs = sum_by-cons (λ (q : SectorRun). q.count * q.size) r rs
 abbrev pub left_sector : List SectorRun → ℕ → ℕ → Option Sector
 left_sector left from place = option_map (moved from) (sector_at left (place - from))
 
--- how far a loop over the runs has come
+-- what a loop over the runs has searched so far
 pub record Passed (runs : List SectorRun) (place i from : ℕ) : Type 0 where
   pub same : left_sector (drop i runs) from place ≡ sector_at runs place
   pub rest : from + cells_of (drop i runs) ≡ cells_of runs
@@ -117,7 +117,7 @@ passed_none runs place i from nil so_far = sym (ap (λ (l : List SectorRun). lef
 cells_same : (a b : SectorCells) → Some a ≡ Some b → a ≡ b
 cells_same a b same = cc
 
--- the sector of a cell lies in the cells
+-- the sector of a cell lies among all cells
 pub sector_inside : (runs : List SectorRun) (place empty cells : ℕ) (o : Option SectorCells) → IsTrue (list_all run_fits runs)
     → cells_of runs ≡ cells → place + 1 ≤ cells → o ≡ sector_cells empty (sector_at runs place) → IfSome o (λ s. AreInside cells s)
 sector_inside runs place empty cells None fit whole less same = tt

@@ -1,4 +1,4 @@
--- A tick by the ticks that are left.
+-- What a tick does, by the number of ticks left.
 use Rattle.std.proofs.Common.{◌≡◌, ◌<◌, ◌≤◌, ◌-◌, ℕ, zero, suc, List, refl, ap, arith}
 use Rattle.bench_model.specs.Calls.{written}
 use Rattle.flash_layout.specs.declared.work.Operation.{Operation}

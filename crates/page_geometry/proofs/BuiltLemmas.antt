@@ -1,4 +1,4 @@
--- The tables of a geometry, as they are built run by run.
+-- The tables of a geometry, built run by run.
 use Rattle.std.proofs.Common.{◌≡◌, ℕ, zero, suc, ◌+◌, ◌-◌, ◌<◌, ◌≤◌, min, refl, sym, ap, subst, arith, ◌∙◌, List, [], ◌∷◌, ◌++◌, take, drop, length, get_or}
 use Rattle.std.proofs.Common.{slice_index, inl, inr}
 use Rattle.std.proofs.lemmas.Bool.{cases_lt}
@@ -37,7 +37,7 @@ built_none size page items = record {
   pages_are = sym (pages_none page (runs_of size items));
 }
 
--- one more number at the end
+-- a list of numbers with one more at the end
 pushed : (xs : List ℕ) (n x : ℕ) (f : ℕ → ℕ) → length xs ≡ n → ((k : ℕ) → k < n → slice_index xs k ≡ f k) → x ≡ f n →
     (k : ℕ) → k < n + 1 → slice_index (xs ++ x ∷ []) k ≡ f k
 pushed xs n x f long each last k h =
@@ -49,12 +49,12 @@ pushed xs n x f long each last k h =
           ∙ (let z : k - n ≡ 0 = omega (arith, same) in ap (λ (i : ℕ). get_or (x ∷ []) i 0) z) ∙ last ∙ ap f (sym same))
     ]
 
--- a list that is one longer
+-- a list that is longer by one
 pub pushed_long : (xs : List ℕ) (n x : ℕ) → length xs ≡ n → length (xs ++ x ∷ []) ≡ n + 1
 pushed_long xs n x long = length-append xs (x ∷ []) ∙ omega (arith, long)
 
 module _ (size page : ℕ) (items : List SectorItem) (lawful : IsLawful (shape size page items)) where
-  -- the run of an item, as the code makes it
+  -- the run of an item, as the code builds it
   pub run_made : (n stop : ℕ) → n < length items → stop ≡ item_end size (drop (n + 1) items)
       → (let r : Run = record { start = (get_or items n no_item).offset; stop = stop; step = (get_or items n no_item).size } in r) ≡ run_at
       (runs_of size items) n

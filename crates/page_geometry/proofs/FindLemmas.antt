@@ -1,4 +1,4 @@
--- From a number or a place to its run, sector and page. `find_sector`, `find_page` and `find_place` search the tables so.
+-- From a number or a place to its run, sector and page, as `find_sector`, `find_page` and `find_place` search the tables.
 use Rattle.std.proofs.Common.{◌≡◌, ℕ, ◌+◌, ◌-◌, ◌*◌, ◌/◌, ◌%◌, ◌<◌, ◌≤◌, sym, ap, subst, arith, ◌∙◌, List, length, slice_index, inl, inr}
 use Rattle.std.proofs.Math.Nat.{div-add-mod'}
 use Rattle.std.proofs.lemmas.Nat.{mod_below}
@@ -11,7 +11,7 @@ use Rattle.page_geometry.specs.Table.{AreRuns, AreFirstSectors, AreFirstPages}
 use Rattle.flm_descriptor.proofs.RunLemmas.{sectors_next, pages_next, sectors_all, pages_all, sectors_none, pages_none, sectors_rise, pages_rise, run_find_page}
 use Rattle.flm_descriptor.proofs.RunLemmas.{pieces_some}
 
--- ---- what `last_at_most` asks of the tables
+-- ---- what `last_at_most` requires of the tables
 
 module _ (runs : List Run) (firsts : List ℕ) (t : AreFirstSectors runs firsts) where
   pub sectors_rising : (i j : ℕ) → i ≤ j → j < length firsts → slice_index firsts i ≤ slice_index firsts j
@@ -60,7 +60,7 @@ module _ (page : ℕ) (runs : List Run) (firsts : List ℕ) (t : AreFirstPages p
       ] in
       (here, omega (arith, e, next, over, low), omega (arith, e, low))
 
-  -- which sector of the run, and which page of it
+  -- the sector's number in the run, and the page's number in the sector
   pub page_parts : (at index each : ℕ) → at < length firsts → slice_index firsts at ≤ index → (at + 1 < length firsts → index < slice_index firsts (at + 1)) →
       index < length (pages_of page (sectors_of runs))
       → each ≡ pieces page 0 (run_at runs at).step

@@ -1,4 +1,4 @@
--- A lawful shape's sectors and pages: partitions of the device, and no page longer than the shape says.
+-- The sectors and pages of a lawful shape are partitions of the device, and no page is longer than the shape says.
 use Rattle.std.proofs.Common.{◌≡◌, ℕ, suc, ◌+◌, ◌-◌, ◌<◌, ◌≤◌, min, sym, subst, arith, ◌∙◌, List, [], ◌∷◌, length, append-nil, inl, inr}
 use Rattle.std.proofs.lemmas.Bool.{cases_lt}
 use Rattle.std.proofs.lemmas.List.{get_or_append_left, get_or-append_right, length-append}
@@ -76,11 +76,11 @@ pages_fit page (r ∷ ss) p h =
           subst (λ (x : Range). goal x) (sym e) (pages_fit page ss (p - n) (omega (arith, h, all, long, there))))
     ]
 
--- no page of a shape's geometry is longer than its pages are to be
+-- no page of a shape's geometry is longer than the shape's page size
 pub geometry_fits : (s : Shape) → PagesFit s.page (shape_geometry s)
 geometry_fits s = pages_fit s.page (sectors s)
 
--- a page one of whose places lies in a sector lies in it whole
+-- a page with one place in a sector lies in that sector as a whole
 pub page_within : (l : Geometry) → IsGeometry l → (s p i : ℕ) → p < length l.pages → In i (range_at l.pages p) → In i (range_at l.sectors s) →
     Within (range_at l.pages p) (range_at l.sectors s)
 page_within l good s p i inside in_page in_sector =

@@ -1,4 +1,4 @@
--- From a run and numbers in it to the number and the range of a sector or page.
+-- From a run and numbers in the run to the number and the range of a sector or page.
 use Rattle.std.proofs.Common.{◌≡◌, ℕ, ◌+◌, ◌-◌, ◌*◌, ◌/◌, ◌<◌, ◌≤◌, sym, subst, arith, ◌∙◌, List, length, slice_index}
 use Rattle.std.proofs.Math.Nat.{div-add-mod'}
 use Rattle.std.proofs.lemmas.Nat.{mod_below}

@@ -5,7 +5,7 @@ use lib.ListN.{length-replicate}
 use lib.Seq.{sets, sets-eq, length-sets, set-get_or, take-length}
 use Rattle.ram_arena.specs.Windows.{laid}
 
--- one byte more in a window
+-- a window after one more byte is stored
 pub step : (ws : List (List ℕ)) (i : ℕ) (w : List ℕ) (o v : ℕ) → i < length ws → set (set ws i w) i (set (get_or (set ws i w) i []) o v) ≡ set ws i (set w o v)
 step ws i w o v lt = ap (λ (l : List ℕ). set (set ws i w) i (set l o v)) (get_or-set_same ws i w [] lt) ∙ set-set ws i w (set w o v)
 

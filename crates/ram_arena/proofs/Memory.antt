@@ -82,7 +82,7 @@ module _ {M : Type 1} {𝓤 : Ura M} {𝓛 : Logic 𝓤} {K : Type 0} {Γ : List
   mark_had t vs k = fpick t (λ vss. fsplit t $ feq_l t (λ ev. fsplit t $ fpick t (λ uss. fsplit t $ feq_l t (λ e. skip t $ skip t $
       k (subst (λ (ws : List Val). vs ≡ vstruct (of_list (ws ++ [])) ∷ []) e ev)))))
 
--- a place of a row that is shown by its number
+-- a slot of a row, given by its number
 module _ {M : Type 1} {𝓤 : Ura M} (𝓛 : Logic 𝓤) (b : ℕ) where
   open 𝓛 use {H}
 
@@ -99,13 +99,13 @@ module _ {M : Type 1} {𝓤 : Ura M} (𝓛 : Logic 𝓤) (b : ℕ) where
   glue (x ∷ xs) ys o at e = qed 𝓛 (‵ (Row o (x ∷ xs)) ∷ ‵ (Row at ys) ∷ []) ∵ fsplit ! $ move ! (1 ∷ 2 ∷ []) $
       use2 𝓛 (‵ (Row (o + 1) (xs ++ ys))) (glue xs ys (o + 1) at (omega arith)) $ move ! (1 ∷ 0 ∷ []) $ fjoin ! $ done !
 
-  -- the byte in a place is let go
+  -- the byte in a slot is given up, and room for one is left
   emptied : (o : ℕ) (c : Place) → ent 𝓤 (sem 𝓛 (slot b o c)) (H.room (ty_int w8) b o)
   emptied o None = id⊢ 𝓤 _
   emptied o (Some x) = via 𝓤 (H.at full_share (ty_int w8) b o (vint w8 x)) (uint_out 𝓛 full_share w8 x b o) (𝓛.laws.at_room (ty_int w8) b o (vint w8 x))
 
   module _ (o : ℕ) (cs : List Place) (i : ℕ) where
-    -- the places but for the i-th
+    -- all slots except slot `i`
     abbrev pub Besides : Fml
     Besides = fsep (Row o (take i cs)) (Row (i + o + 1) (drop (suc i) cs))
 

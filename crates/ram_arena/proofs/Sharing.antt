@@ -1,4 +1,4 @@
--- A `&` to the bytes is made of a borrow of them. Assumes `Logic`.
+-- A shared reference `&` to the bytes is made from a borrow of them. Assumes `Logic`.
 use Prim.Native.Nat.{ℕ, ◌+◌}
 use Rattle.std.specs.Prelude.{List, [], ◌∷◌, Option, Some, None}
 use seplogic.Ra.Ura.{Ura}

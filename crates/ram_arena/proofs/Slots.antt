@@ -1,4 +1,4 @@
--- A full list of places, at a place and after a store.
+-- A full list of slots: the byte at a place, and the bytes after a store.
 use Rattle.std.proofs.Common.{◌≡◌, ◌<◌, ◌+◌, ◌-◌, ℕ, zero, suc, List, [], ◌∷◌, map, length, get_or, set, replicate, slice_index, Option, Some, None, refl, sym}
 use Rattle.std.proofs.Common.{ap, subst, ◌∙◌, arith, length-set}
 use lib.ListN.{length-map, length-replicate}
@@ -64,7 +64,7 @@ pub zeros_full : (size : ℕ) → IsFull (zeros_to size 0)
 zeros_full zero = refl
 zeros_full (suc size) = ap (λ (l : List (Option ℕ)). Some 0 ∷ l) (zeros_full size)
 
--- what stores leave of a full list of places: its length, that it is full, and its bytes
+-- what stores keep of a full list of slots: its length, and that it is full; and the bytes it then has
 pub record Kept (cs ds : List (Option ℕ)) (xs : List ℕ) : Type 0 where
   pub long : length ds ≡ length cs
   pub full : IsFull ds

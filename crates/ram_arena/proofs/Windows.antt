@@ -119,7 +119,7 @@ module _ (ns : List ℕ) (i : ℕ) (bytes : List ℕ) (lt : i < length ns) where
         byte_in ns i bytes (o + 3) lt (omega (arith, at)),
       ) refl
 
--- the places that are kept are those at which the windows begin
+-- the places that are kept are the ones where the windows begin
 pub from_is : (ws : List Window) (at i : ℕ) (x : Window) → LieFrom at ws → i < length ws → (get_or ws i x).from ≡ at + begins (sizes_of ws) i
 from_is [] at i x lie lt = absurd (none i lt)
 from_is (w ∷ ws) at zero x lie lt = lie.0 ∙ omega arith
@@ -161,7 +161,7 @@ pub sizes_more : (ws : List Window) (w : Window) → sizes_of (ws ++ w ∷ []) �
 sizes_more [] w = refl
 sizes_more (v ∷ ws) w = ap (λ (l : List ℕ). v.size ∷ l) (sizes_more ws w)
 
--- some of the windows take no more than all
+-- the first windows take no more bytes than all windows
 pub total_take : (i : ℕ) (ns : List ℕ) → total (take i ns) ≤ total ns
 total_take zero ns = omega arith
 total_take (suc i) [] = omega arith

@@ -1,4 +1,4 @@
--- A run is the one that its first point and its fuel give.
+-- A run has the end and the last point that its first point and its fuel give.
 use Rattle.std.proofs.Common.{◌≡◌, ◌≤◌, ◌<◌, ◌+◌, ◌-◌, ◌*◌, ◌%◌, ℕ, Bool, true, false, nat_eq, if◌then◌else◌, Option, Some, sym, ap, subst, arith, ◌∙◌, ⊎_elim}
 use Rattle.std.proofs.lemmas.Bool.{cases_lt}
 use Rattle.bench_model.specs.History.{Leaves}
@@ -28,7 +28,7 @@ tested_odd true used r0 at e pc r k back left same fine = cc
 tested_odd false true r0 at e pc r k back left same fine = cc
 tested_odd false false r0 at e pc r k back left same fine = last_fine e pc r k same fine
 
--- an end before a step that is neither the return point nor the fuel has the step's instruction
+-- an end other than the return point or the fuel is at the point after the step's instruction
 end_odd : (return_at fuel : ℕ) (p : Point) (k : ℕ) (r : RunEnd) → nat_eq (pc_of (whole p k).core) return_at ≡ false → nat_eq k fuel ≡ false →
     end_at return_at fuel p k ≡ Some r → last_number r k ≡ 2 * k + 1
 unfolding end_at
@@ -80,7 +80,7 @@ broke_off return_at fuel steps first made start end runs broke = ⊎_elim
     so_far number le = leaves_as (IsLeftOnPath first (2 * made)) (IsLeftOnPath first (number + number % 2))
         (longer first (2 * made) (number + number % 2) le) runs.moments
 
--- an end that is no device fault
+-- an end that is not a device fault
 module _ (return_at fuel : ℕ) (first : Point) (made : ℕ) (start : BenchState) (e : RunEnd) (last : Point) (end : BenchState)
     (runs : RunsTo return_at fuel first made (last_number e made) start end) (ends : EndsWith return_at fuel first made e last) where
   same_last : run_last return_at fuel first ≡ last_number e made
@@ -127,7 +127,7 @@ run_gives return_at fuel steps first made start run.DeviceFault last end runs en
       ends = broke_off return_at fuel steps first made start end runs ends;
     }
 
--- a slice that ended, ended as the run with the fuel that was left to it
+-- a slice that ended has the end of the run with the fuel that was left to it
 pub run_of_slice : (return_at : ℕ) (first last : Point) (start end : BenchState) (left left' steps : ℕ) (e : RunEnd) →
     SliceFrom return_at first start left left' steps (slice.Ended e) last end → RunGives return_at left first start e last end
 run_of_slice return_at first last start end left left' steps e is = run_gives return_at left steps first (left - left') start e last end is.runs is.ends.0

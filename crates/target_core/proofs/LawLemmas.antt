@@ -1,4 +1,4 @@
--- Runs and slices as wholes: one start has one end, and a run that is cut into slices ends as the run that it is.
+-- Whole runs and slices: one start has one end, and a run that is cut into slices ends as the whole run does.
 use Rattle.std.proofs.Common.{◌≡◌, ◌≤◌, ◌+◌, ◌-◌, ◌*◌, ◌/◌, ◌%◌, ℕ, true, false, List, [], ◌∷◌, ⊎_elim, refl, sym, ap, subst, arith, ◌∙◌}
 use Rattle.bench_model.specs.History.{Leaves}
 use Rattle.bench_model.specs.State.{BenchState, cells_half}
@@ -28,7 +28,7 @@ has_one_end return_at fuel p = record {
   alone = λ made e within goes ends. (sym (steps_made_is return_at fuel p made e within goes ends), sym (run_end_is return_at fuel p made e within goes ends));
 }
 
--- the points of a run, numbered from one of its whole steps on
+-- the points of a run, numbered from one of its whole steps
 pub point_add : (p : Point) (m n : ℕ) → point p (2 * m + n) ≡ point (whole p m) n
 unfolding point
 point_add p m n =
@@ -43,7 +43,7 @@ goes_on_as return_at fuel p m le goes = record {
   points = point_add p m;
 }
 
--- what a whole run gives where no device fault came
+-- what a whole run gives if no device fault came
 ended_as : (return_at fuel : ℕ) (first : Point) (start : BenchState) (e : RunEnd) (last : Point) (end : BenchState) →
     RunEndsAs return_at fuel first start e last end →
     is_device_end e ≡ false → (e ≡ run_end_of return_at fuel first) × (last ≡ last_point (run_path return_at fuel first))
@@ -63,7 +63,7 @@ one_end return_at fuel first start s e f last other end t one two fine good =
     ended_as return_at fuel first s f other t two.ends good in
     (a.0 ∙ sym b.0, a.1 ∙ sym b.1)
 
--- The rest of a run, from one of its whole steps on, in terms of the whole run.
+-- The rest of a run, from one of its whole steps on, compared with the whole run.
 module _ (return_at fuel : ℕ) (first : Point) (made : ℕ) (le : made ≤ fuel) (goes : GoesTo return_at fuel first made) (here : Point)
     (is : here ≡ whole first made) (rest : ℕ) (left : rest ≡ fuel - made) where
   far : run_last return_at fuel first ≡ 2 * made + run_last return_at rest here
@@ -79,7 +79,7 @@ module _ (return_at fuel : ℕ) (first : Point) (made : ℕ) (le : made ≤ fuel
     left = subst (λ (p : Point). LeftAt p c) (there at.number) at.left;
   }
 
-  -- the moments of the steps before, and those of the rest
+  -- what a stop leaves in the steps before and in the rest
   moments_there : (start mid end : BenchState) (n m : ℕ) → 2 * made + n ≤ m → Leaves (cells_half start) (cells_half mid) (IsLeftOnPath first (2 * made)) →
       Leaves (cells_half mid) (cells_half end) (IsLeftOnPath here n) → Leaves (cells_half start) (cells_half end) (IsLeftOnPath first m)
   moments_there start mid end n m le before moments = leaves_then (IsLeftOnPath first m)
@@ -123,7 +123,7 @@ module _ (return_at fuel : ℕ) (first : Point) (made : ℕ) (le : made ≤ fuel
     ends = ends_there start mid end e last before gives.ends;
   }
 
--- a slice that ended with more to do, and a run with the fuel that was left
+-- a slice that ended with more to do, and then a run with the fuel that was left
 pub slice_then_run : (return_at : ℕ) (first between last : Point) (start turn end : BenchState) (fuel left steps : ℕ) (e : RunEnd) → left ≤ fuel →
     SliceFrom return_at first start fuel left steps slice.More between turn
     → RunGives return_at left between turn e last end → RunGives return_at fuel first start e last end
@@ -132,7 +132,7 @@ slice_then_run return_at first between last start turn end fuel left steps e le 
     let here : between ≡ whole first made = is.ends.1.leaves ∙ point_even first made in
     rest_gives return_at fuel first made is.runs.within is.runs.goes between here left (omega (arith, le)) start turn end e last is.runs.moments gives
 
--- slices of a run, however it is cut
+-- the slices of a run, however it is cut, give the whole run
 pub sliced_is_run : {B : Type 0} (state : B → BenchState) (return_at : ℕ) (cuts : List ℕ) (first : Point) (start : B) (fuel : ℕ) (e : RunEnd) (last : Point)
     (end : B) → Sliced state return_at cuts first start fuel e last end
     → RunGives return_at fuel first (state start) e last (state end)

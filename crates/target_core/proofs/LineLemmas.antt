@@ -1,4 +1,4 @@
--- A load that lies in the RAM, one of a register, and a store to the RAM. For the loads and stores of `Line`.
+-- A load from the RAM, a load of a register, and a store to the RAM, for the loads and stores of `Line`.
 use Rattle.std.proofs.Common.{◌≡◌, ◌+◌, ℕ, List, length, Option, Some, None, IfSome, option_map, Result, Ok, refl, sym, ap, subst, arith, ◌∙◌, inr}
 use Rattle.std.proofs.lemmas.Bool.{false≢true}
 use Rattle.bench_model.specs.declared.bench.Bench.{Ghosts}
@@ -16,7 +16,7 @@ use Rattle.target_core.proofs.StepLemmas.{Law, same_here, world_stays, world_wit
 from_ram : (base len size at width offset : ℕ) → len ≡ size → Some offset ≡ place_of base size at width → place_of base len at width ≡ Some offset
 from_ram base len size at width offset same is = ap (λ (n : ℕ). place_of base n at width) same ∙ sym is
 
--- an access that is answered by its row, and asks no bench
+-- an access that is answered by its row, without a call of the bench
 row_gives : {B : Type 0} {G : Ghosts B} → Law G → (l m : Line B G) (access : Access) (v : ℕ) → SameLine l m → m.bench.now ≡ l.bench.now →
     (◌≡◌ {A = Result ℕ BusEnd} (Ok v) (world_answer (world_of l) access).0) × (world_of m ≡ (world_answer (world_of l) access).1) →
     line_acts l access (Ok v) m
@@ -67,7 +67,7 @@ stores {B} {G} law l m width at offset v same unit bench place is =
     let good : P (Some offset) = (refl, world_with l m (put offset) same unit is bench) in
     row_gives law l m (Store width at v) 0 same bench (subst P (sym found) good)
 
--- a load outside the RAM whose answer needs no cell, and asks no bench
+-- a load outside the RAM whose answer needs no cell and no call of the bench
 quiet_load : {B : Type 0} {G : Ghosts B} → Law G → (l : Line B G) (at v : ℕ) → None ≡ place_of l.ram_base l.ram_size at 4
     → ((cells : List ℕ) → bus_load (unit_map l.unit.now) (unit_state l.unit.now) cells at 4 ≡ Ok v) → line_acts l (Load 4 at) (Ok v) l
 unfolding world_answer

@@ -1,4 +1,4 @@
--- One comparison tells whether an access lies in the RAM: below the RAM, the subtraction goes past the end of what is left of the addresses.
+-- One comparison decides whether an access lies in the RAM: below the RAM, the subtraction gives a number past the end of the remaining addresses.
 use Rattle.std.proofs.Common.{◌≡◌, ◌<◌, ◌≤◌, ◌+◌, ◌-◌, ◌%◌, ◌^◌, min, ℕ, Bool, true, false, ◌||◌, nat_eq, nat_lt, if◌then◌else◌, Option, Some, None, refl, sym}
 use Rattle.std.proofs.Common.{ap, arith, ⊎_elim, ◌*◌, ◌/◌, bit_or, eqb-true}
 use Rattle.std.specs.Int.{w32, rotate_right}
@@ -60,7 +60,7 @@ apart_there base size block bytes at offset apart small fits is within =
           (cases_lt block (base + size)),
     )
 
--- A number that is rotated right by one bit or two lies below a half or a quarter of all numbers where it was even or a multiple of 4.
+-- If a number rotated right by one bit is below 2^31, it was even. If a number rotated right by two bits is below 2^30, it was a multiple of 4.
 
 above : (a b : ℕ) → b ≤ bit_or a b
 above a b = omega (arith, or_add_and a b, and_le_l a b)
@@ -80,7 +80,7 @@ by_two x limit below most =
     let none : x * 2 ^ 30 % 2 ^ 32 ≡ 0 = omega (arith, high) in
     (omega (arith, none), same_or (x / 4) (x * 2 ^ 30 % 2 ^ 32) none)
 
--- a count of steps that isn't 0 lies within the reach, and the base is a multiple of a step
+-- an index below the count of steps is below the steps in reach, and the base is a multiple of a step
 some_step : (fits : Bool) (steps count : ℕ) (i : ℕ) → count ≡ (if fits then steps else 0) → i < count → (fits ≡ true) × (i < steps)
 some_step true steps count i is some = (refl, omega (arith, is, some))
 some_step false steps count i is some = absurd (omega (arith, is, some))

@@ -1,4 +1,4 @@
--- The RAM as a window of an arena. All that loads, stores or clears RAM of a target in an arena goes by them.
+-- The RAM as a window of an arena. All lemmas about loads, stores and clearing of a target's RAM use these.
 use Rattle.std.proofs.Common.{◌≡◌, ◌≢◌, ◌<◌, ◌+◌, ℕ, zero, suc, List, [], ◌∷◌, ◌++◌, take, drop, length, get_or, set, append-nil, drop_of_length-le, refl, sym}
 use Rattle.std.proofs.Common.{ap, subst, ◌∙◌, arith, length-set, get_or-set_same, get_or-set_other, set-set}
 use lib.Seq.{set-get_or}
@@ -13,7 +13,7 @@ ram_is ws ws' i x is lt = ap (λ (l : List (List ℕ)). window_of l i) is ∙ wi
 none : (i : ℕ) → i < 0 → ⊥
 none i lt = omega (arith, lt)
 
--- a window that was set, and no other
+-- one window was set, and no other changed
 pub only_set : (ws ws' : List (List ℕ)) (i : ℕ) (x : List ℕ) → ws' ≡ set ws i x → i < length ws → OnlyIn i ws ws'
 only_set ws ws' i x is lt = is ∙ ap (λ (l : List ℕ). set ws i l) (sym (ram_is ws ws' i x is lt))
 
@@ -32,7 +32,7 @@ ram_set ws ws' i size x is ram long = (
   ap (λ (l : List ℕ). length l) (ram_is ws ws' i x is ram.0) ∙ long,
 )
 
--- each other window stays
+-- every other window stays
 pub other_stays : (ws ws' : List (List ℕ)) (i j : ℕ) → OnlyIn i ws ws' → j ≢ i → window_of ws' j ≡ window_of ws j
 other_stays ws ws' i j only other = ap (λ (l : List (List ℕ)). window_of l j) only ∙ get_or-set_other ws i j (window_of ws' i) [] other
 

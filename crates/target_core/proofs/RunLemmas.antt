@@ -87,12 +87,12 @@ last_to (run.StrayBreak pc) made = omega arith
 last_to (run.Faulted kind pc) made = omega arith
 last_to run.DeviceFault made = omega arith
 
--- a path has at most the points of its fuel
+-- a path has at most the points that its fuel allows
 pub run_last_within : (return_at fuel : ℕ) (p : Point) → run_last return_at fuel p ≤ 2 * fuel + 1
 unfolding run_last
 run_last_within return_at fuel p = omega (arith, last_to (run_end_of return_at fuel p) (steps_made return_at fuel p), steps_made_within return_at fuel p)
 
--- a path has at least the points of the steps that went
+-- a path has at least the points of the steps made
 pub run_last_from : (return_at fuel : ℕ) (p : Point) (made : ℕ) → made ≤ fuel → GoesTo return_at fuel p made → 2 * made ≤ run_last return_at fuel p
 unfolding run_last
 run_last_from return_at fuel p made within goes = omega (

@@ -1,4 +1,4 @@
--- A controller's block of registers, and a controller as after a reset.
+-- The register block of a controller, and a controller after a reset.
 use Rattle.std.proofs.Common.{◌≡◌, ℕ, Bool, None, refl, ap, sym, ◌∙◌}
 use Rattle.bench_model.specs.State.{BenchState}
 use Rattle.board_file.specs.declared.kind.ControllerKind.{ControllerKind}
@@ -10,7 +10,7 @@ use Rattle.flash_driver.specs.Table.{with_block}
 use Rattle.target_core.specs.AnyTable.{any_table}
 use Rattle.target_core.specs.Units.{Unit, fresh, state_op, unit_cells, unit_state, UnitAgrees}
 
--- the block of a kind's registers is that of its boards
+-- the register block of a kind has the size that its boards keep free
 pub block_same : (k : ControllerKind) → any_table.block k ≡ block_of k
 block_same kind.Fc1 = refl
 block_same kind.Fpec = refl
@@ -18,7 +18,7 @@ block_same kind.Fpec = refl
 pub with_same : (b : Shown) → with_block any_table (board_map b) ≡ board_map b
 with_same b = ap (λ (n : ℕ). record (board_map b) { block = n }) (block_same b.kind)
 
--- no operation runs
+-- no operation runs in a fresh controller
 pub fresh_idle : (k : ControllerKind) → state_op (fresh k) ≡ None
 fresh_idle k = refl
 

@@ -9,7 +9,7 @@ use Rattle.page_geometry.specs.Geometry.{Geometry}
 use Rattle.erase_planner.proofs.FinishLemmas.{finish_sectors, finish_chip}
 use Rattle.erase_planner.proofs.choose.choose.Goals as goal
 
--- costs by numbers that are known
+-- the sum of two costs, with numbers that are known
 two_costs : (a b v w m n j k : ℕ) → a ≡ v * m → b ≡ w * n → m ≡ j → n ≡ k → a + b ≡ v * j + w * k
 two_costs a b v w m n j k first second one other = cc
 

@@ -1,4 +1,4 @@
--- `allocate` makes the block a row of empty places, and keeps the right to free it. Assumes `Logic`.
+-- `allocate` turns the block into a row of empty slots, and keeps the right to free it. Assumes `Logic`.
 use mathlib.Core.Bool.{true, false}
 use Rattle.std.proofs.Common.{◌≡◌, ◌*◌, ◌<◌, ◌^◌, List, [], ◌∷◌, ◌++◌, length, replicate, refl, sym, subst, ◌∙◌, arith, lit<, w64, None, Ok, Err}
 use lib.ListN.{length-replicate}

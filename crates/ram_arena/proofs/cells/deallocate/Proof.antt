@@ -1,4 +1,4 @@
--- `deallocate` makes the block of its places, and hands it back with the allocator's token. Assumes `Logic`.
+-- `deallocate` turns the slots into a block again, and gives it back with the allocator's token. Assumes `Logic`.
 use Rattle.std.proofs.Common.{◌≡◌, ◌*◌, ℕ, List, [], ◌∷◌, ◌++◌, length, refl, sym, subst, ◌∙◌, arith, lit<, w64, T}
 use mir.Syntax.{Ty, ty_unit, Fn, Args, a_type, dcons, dnil}
 use mir.Val.{Val, vint, vptr, vunit, has_ty, WT}

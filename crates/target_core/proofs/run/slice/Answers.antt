@@ -1,4 +1,4 @@
--- A slice is the steps that were made.
+-- A slice is the steps that it made.
 use Rattle.target_core.proofs.LoopLemmas.{not_more}
 use Rattle.bench_model.proofs.CountLemmas.{none_counted, one_counted, counted_then}
 use Rattle.std.proofs.Common.{◌≡◌, ℕ, slice_index, refl, sym, arith, ◌∙◌, ap, subst}

@@ -1,4 +1,4 @@
--- A register's word at hand is what a load of it answers.
+-- The word that `peek` gives is what a load of the register answers.
 use Rattle.flash_layout.specs.Maps.{map_of}
 use Rattle.flash_driver.proofs.RegisterLemmas.{register_peeks}
 use Rattle.flash_driver.proofs.driver.Driver.peek.Goals as goal

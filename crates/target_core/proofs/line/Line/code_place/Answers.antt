@@ -1,4 +1,4 @@
--- A place that isn't aligned is past the end after the rotation.
+-- A place that isn't aligned comes out of the rotation past the end of the RAM.
 use Rattle.std.proofs.Common.{◌+◌, ◌-◌, ◌%◌, ◌^◌, ℕ, arith, ap, ◌∙◌}
 use Rattle.std.specs.Int.{w32, rotate_right}
 use Rattle.target_core.proofs.PlaceLemmas.{half_inside}

@@ -1,4 +1,4 @@
--- A place that isn't aligned is past the end after the rotation.
+-- A place that isn't aligned comes out of the rotation past the end of the RAM.
 use Rattle.std.proofs.Common.{arith}
 use Rattle.target_core.proofs.PlaceLemmas.{half_inside}
 use Rattle.target_core.proofs.line.Line.half_place.Goals as goal

@@ -1,4 +1,4 @@
--- A register's word at hand is what the driver answers.
+-- The word that `peek_register` gives is what the driver answers.
 use Rattle.std.proofs.Common.{ℕ, ◌+◌, ◌-◌, ◌%◌, ◌^◌, arith, refl}
 use Rattle.target_core.proofs.LineLemmas.{peeks}
 use Rattle.target_core.proofs.PlaceLemmas.{apart_there}

@@ -1,4 +1,4 @@
--- A halfword at hand is one of the RAM.
+-- A halfword that is read directly is one of the RAM.
 use Rattle.std.proofs.Common.{refl}
 use Rattle.target_core.proofs.LineLemmas.{loads}
 use Rattle.target_core.proofs.StepLemmas.{same_here}

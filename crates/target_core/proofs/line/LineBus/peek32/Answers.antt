@@ -1,4 +1,4 @@
--- A word at hand is one of the RAM or a register's.
+-- A word that is read directly is one of the RAM or that of a register.
 use Rattle.std.proofs.Common.{refl}
 use Rattle.target_core.proofs.LineLemmas.{loads}
 use Rattle.target_core.proofs.StepLemmas.{same_here}
