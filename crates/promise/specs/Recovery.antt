@@ -10,8 +10,8 @@ use Rattle.promise.specs.Promise.{Call, IsIdle, IsBegun, ProgramsJob, BeginsJob,
 use Rattle.promise.specs.Complete.{NoFault, IsRight, KeepsDuties, IsComplete, Completes}
 use Rattle.promise.specs.Campaign.{Later, command_to, goal_of, IsWithin, AllFollow, AllKeep}
 
--- A whole file of this job stands for it. Its texts describe a board and, for each region, an algorithm that fits it. Its image lies in
--- the regions, and its snapshot has a byte for each of their cells. The bench has as many cells.
+-- A whole file of this job stands for the job. Its texts describe a board and, for each region, an algorithm that fits it. Its image lies
+-- in the regions, and its snapshot has a byte for each of their cells. The bench has as many cells.
 pub record IsTaken (call : Call) (job : Job) (says : SaysJob job) : Type 0 where
   pub right : IsRight job says
   pub sized : length job.snapshot ≡ call.old.cell_count
@@ -37,8 +37,8 @@ abbrev pub AllComplete : List Later → Type 0
 AllComplete [] = Unit {0}
 AllComplete (next ∷ rest) = Completes (command_to next.goal) next.call × AllComplete rest
 
--- The job's file is whole at the entry, the number of cells is as before, the algorithms keep their duties, and no fault is counted. Then
--- the call answers 0, or 1 if it ran out of memory; with 0 the cells are the goal of the job that was begun.
+-- Suppose that the job's file is whole at the entry, the number of cells is as before, the algorithms keep their duties, and no fault is
+-- counted. Then the call answers 0, or 1 if it ran out of memory; with 0 the cells are the goal of the job that was begun.
 abbrev pub Recovers : Job → ℕ → Later → Type 0
 Recovers job count next = IsWhole job.body next.call.old.file → next.call.old.cell_count ≡ count → KeepsDuties job → NoFault next.call
     → IsComplete next.call × (next.call.status ≡ 0 → IsDone job.body (goal_of next.goal job) next.call.new)
