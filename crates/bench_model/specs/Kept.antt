@@ -1,4 +1,4 @@
--- What a file in memory keeps so that a stop can be played, and which files a stop may leave.
+-- What a file in memory keeps of its past, and which files a stop may leave.
 use Rattle.std.specs.Prelude.{◌<◌, ◌≤◌, ◌+◌, ◌≡◌, ◌⊎◌, ℕ, List, [], ◌∷◌, length, take, max, min, slice_index}
 use Rattle.bench_model.specs.Calls.{written}
 

@@ -98,7 +98,7 @@ impl<'a> Hand<'a> {
         })
     }
 
-    /// The halfword of the RAM at an address, where there is one.
+    /// The halfword of the RAM at an address, if there is one.
     #[tactic(auto, using(crate::proofs::HandLemmas::half_read))]
     pub(crate) fn half(&self, at: u32) -> Option<u16>
         ensures { IfSome result (λ half. (cells : List ℕ) → (world_answer (hand_point self.now cells).world (Load 2 at)).0 ≡ Ok half) }

@@ -1,4 +1,4 @@
--- What is tried: the cells of a board's regions, where those of one begin, and the sectors and pages of an algorithm's device.
+-- The subject of trials: the cells of a board's regions, the first cell of each, and the sectors and pages of an algorithm's device.
 use Rattle.std.proofs.Common.{◌≡◌, ◌<◌, ◌≤◌, ◌+◌, ◌-◌, ◌^◌, ℕ, zero, suc, Bool, if◌then◌else◌, List, [], ◌∷◌, length, length-take, take, drop, get_or, Ok, Err}
 use Rattle.std.proofs.Common.{le-leb, refl, ◌∙◌, ap, subst, add-one, arith}
 use Rattle.std.proofs.lemmas.Option.{slice_get_within, get_or_from_slice_get}
@@ -98,7 +98,7 @@ taken_short t k span cells less is = omega (arith, page_short t k span less is, 
 range_as : (r : Range) (at len : ℕ) → IsAt r at len → range at (at + len) ≡ r
 range_as r at len is = ap (λ (n : ℕ). range n (at + len)) is.0 ∙ ap (λ (n : ℕ). range r.start n) is.1
 
--- that of a sector or a page has a place, and lies in the device
+-- the range of a sector or a page has at least one cell, and is within the device
 pub some_in : (size : ℕ) (rs : List Range) (k at len : ℕ) → IsPartition size rs → k < length rs → IsAt (range_at rs k) at len → (0 < len) × (at + len ≤ size)
 some_in size rs k at len part less is = (omega (arith, part.some k less, is.0, is.1), omega (arith, part.below k less, is.1))
 
