@@ -1,4 +1,4 @@
--- What the words of a line spell, where each statement stands, and that a text has one code or one refusal.
+-- What the words of a line spell, the place of each statement, and that a text has one code or one refusal.
 pub mod Even
 mod LawLemmas
 mod ListLemmas

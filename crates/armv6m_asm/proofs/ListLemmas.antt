@@ -83,7 +83,7 @@ clear list r h =
 clear_too : (list r : ℕ) → bit_at list r ≡ 0 → is_bit_set list r ≡ false
 clear_too list r h = ne_eqb (bit_at list r) 1 (λ one. absurd (omega arith))
 
--- adding a power of two sets its bit, where it wasn't set
+-- adding a power of two sets its bit, if the bit wasn't set
 more_is_or : (list r : ℕ) → is_bit_set list r ≡ false → bit_or list (2 ^ r) ≡ list + 2 ^ r
 more_is_or list r h = or_disjoint list (2 ^ r) (and_pow list r ∙ ap (λ b. b * 2 ^ r) (clear list r h) ∙ zero-mul (2 ^ r))
 

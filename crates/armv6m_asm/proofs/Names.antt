@@ -29,7 +29,7 @@ not_yet labels k d name lt before other here =
     elim (Contains-push_cases (names_of (take k labels)) (get_or labels k d).name name (subst (λ (ns : List (List ℕ)). Contains ns name) more here))
     [ inl b ↦ before b | inr e ↦ other e ]
 
--- the first label with a name is found where none before it has that name
+-- the first label with a name is found if no label before it has that name
 pub first_named : (labels : List Label) (k : ℕ) (d : Label) (name : List ℕ) → k < length labels → (Contains (names_of (take k labels)) name → ⊥) →
     d ≡ get_or labels k d → d.name ≡ name → IsFirstNamed labels name d.place
 first_named labels k d name lt none here same =
@@ -49,7 +49,7 @@ named_among labels name place here = (
   get_or-map (λ (l : Label). l.name) labels here.0 (record { name = name; place = place }) name here.1 ∙ ap (λ (l : Label). l.name) here.2,
 )
 
--- a name whose place is found is among them
+-- a name with a place that is found is among the names
 pub name_found : (labels : List Label) (name : List ℕ) (P : Type 0) (found : Option ℕ) → is_some found ≡ true
     → MatchOption found P (λ place. Contains labels (record { name = name; place = place })) → Contains (names_of labels) name
 name_found labels name P None some cases = absurd (cc)

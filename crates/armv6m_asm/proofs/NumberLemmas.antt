@@ -23,7 +23,7 @@ IsUtf8-digits radix digits most h = IsUtf8-from_ascii digits (IsAscii-digits rad
 pub address_fits : (digits : List ℕ) → length digits ≡ 8 → IsNumeral 16 digits → digits_value 16 digits < 2 ^ 32
 address_fits digits eight h = omega (arith, digits_value-lt 16 digits h.1, ap (λ n. 16 ^ n) eight)
 
--- a word of ten bytes is an address just where its digits are read
+-- a word of ten bytes is an address exactly if its digits are read
 pub address_of_digits : (word digits : List ℕ) (r : Option ℕ) → word ≡ codes "0x" ++ digits → length word ≡ 10
     → MatchOption r (IsNumeral 16 digits → digits_value 16 digits < 2 ^ 32 → ⊥) (λ v. IsNumeral 16 digits × (v ≡ digits_value 16 digits))
     → MatchOption r ((address : ℕ) → IsAddress word address → ⊥) (λ address. IsAddress word address)

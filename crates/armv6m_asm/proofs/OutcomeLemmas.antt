@@ -188,7 +188,7 @@ bad_or_read before line after stops goes =
           (one_statement line it.here other.here it.right.statement other.statement).1 it.right.aligned)
     ]
 
--- ---- the second: names, up to one that stands among those before it
+-- ---- the second: names, up to one that occurs earlier
 
 twice_or_once : GoesNoFurther AreOnce Contains
 twice_or_once earlier name later (k, within, is) once =
@@ -207,7 +207,7 @@ missing_or_there names earlier name later missing there = missing
 
 -- ---- the fourth: lines that have their bytes, up to one that is out of reach
 
--- a name that stands once has one place
+-- a name that occurs once has one place
 apart : (labels : List Label) (one other : Label) (i j : ℕ) → AreOnce (names_of labels) → one.name ≡ other.name → i < j → j < length labels
     → get_or labels i one ≡ one → get_or labels j other ≡ other → ⊥
 apart labels one other i j once same before within x y =

@@ -218,7 +218,7 @@ number_in-is bytes value is = number_at (is_text (codes "0x") (take 2 bytes)) by
 
 -- ---- what a reader's answer says
 
--- a reader that finds nothing, where each value that it could find is excluded
+-- a reader finds nothing if each value that it could find is excluded
 none_found : (found : Option ℕ) → ((n : ℕ) → found ≡ Some n → ⊥) → found ≡ None
 none_found None never = refl
 none_found (Some n) never = absurd (never n refl)

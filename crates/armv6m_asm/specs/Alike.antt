@@ -1,4 +1,4 @@
--- Statements that say the same, wherever the bytes of their names lie.
+-- Statements that say the same, wherever the bytes of their names are in memory.
 use Rattle.std.specs.Prelude.{◌≡◌, ℕ, List, Option, Some, None}
 use Rattle.std.specs.Borrow.{Bor}
 use Rattle.armv6m_asm.specs.declared.statement.Destination.{Destination}

@@ -1,4 +1,4 @@
--- The names of labels, and the place that a name stands for.
+-- The names of labels, and the place that a name means.
 use Rattle.std.specs.Prelude.{◌≡◌, ℕ, List, ◌∷◌, ◌++◌, map, Contains}
 use Rattle.armv6m_asm.specs.declared.labels.Label.{Label}
 

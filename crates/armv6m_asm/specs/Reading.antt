@@ -81,7 +81,7 @@ abbrev pub with_one_more : ℕ → Option ℕ → Option ℕ
 with_one_more list None = None
 with_one_more list (Some register) = if is_bit_set list register then None else Some (list + 2 ^ register)
 
--- a list of registers with those that the symbols name up to the closing brace, or none where one occurs twice
+-- a list of registers with those that the symbols name up to the closing brace, or none if one occurs twice
 unfoldable pub list_of : ℕ → List Symbol → Option ℕ
 list_of list [] = None
 list_of list (symbol ∷ []) = None

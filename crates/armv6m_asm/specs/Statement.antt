@@ -108,11 +108,11 @@ Are kinds tokens = Begin kinds AreNone tokens
 
 -- ---- operands
 
--- the tokens of a list of registers, with a comma between each two
+-- the tokens of some registers, with a comma between each two
 abbrev pub list_tokens : List ℕ → List Token
 list_tokens registers = join_by (λ r. word (register_text r) ∷ []) (mark 44 ∷ []) registers
 
--- the tokens after an opening brace: at least one register, in any order, and none of them twice
+-- the tokens of a list of registers in braces: at least one register, in any order, and none of them twice
 pub record AreList (list : ℕ) (tokens : List Token) : Type 0 where
   pub registers : List ℕ
   pub some : 0 < length registers

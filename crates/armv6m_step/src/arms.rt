@@ -78,15 +78,15 @@ pub(crate) enum Arm {
     Reverse,
     /// POP.
     Pop,
-    /// B where Z is set.
+    /// B if Z is set.
     BranchEqual,
-    /// B where Z is clear.
+    /// B if Z is clear.
     BranchNotEqual,
-    /// B where C is set.
+    /// B if C is set.
     BranchCarrySet,
-    /// B where C is clear.
+    /// B if C is clear.
     BranchCarryClear,
-    /// B where C is set and Z is clear.
+    /// B if C is set and Z is clear.
     BranchHigher,
     /// B.
     Branch,

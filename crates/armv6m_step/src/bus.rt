@@ -47,7 +47,7 @@ pub trait Bus {
         requires { at % 4 ≡ 0 }
         ensures { acts self.old (Store 4 at value) (stored result) self.new };
 
-    /// The first halfword of an instruction, where the bus has it at hand. The halfword is as `peek16` gives it.
+    /// The first halfword of an instruction, if the bus has it at hand. The halfword is as `peek16` gives it.
     fn fetch16(&self, at: u32) -> Option<u32>
         ensures even { IfSome result (λ v. at % 2 ≡ 0) }
         ensures acts { IfSome result (λ v. acts self.now (Load 2 at) (Ok v) self.now) }

@@ -548,7 +548,7 @@ fn branch_where(taken: bool, pc: u32, half: u16) -> u32
     }
 }
 
-/// B where Z is set.
+/// B if Z is set.
 #[inline(always)]
 fn branch_equal(core: &Core, pc: u32, half: u16) -> Quick
     requires { pc ≡ pc_of core.now }
@@ -558,7 +558,7 @@ fn branch_equal(core: &Core, pc: u32, half: u16) -> Quick
     Quick::Went { pc: to }
 }
 
-/// B where Z is clear.
+/// B if Z is clear.
 #[inline(always)]
 fn branch_not_equal(core: &Core, pc: u32, half: u16) -> Quick
     requires { pc ≡ pc_of core.now }
@@ -568,7 +568,7 @@ fn branch_not_equal(core: &Core, pc: u32, half: u16) -> Quick
     Quick::Went { pc: to }
 }
 
-/// B where C is set.
+/// B if C is set.
 #[inline(always)]
 fn branch_carry_set(core: &Core, pc: u32, half: u16) -> Quick
     requires { pc ≡ pc_of core.now }
@@ -578,7 +578,7 @@ fn branch_carry_set(core: &Core, pc: u32, half: u16) -> Quick
     Quick::Went { pc: to }
 }
 
-/// B where C is clear.
+/// B if C is clear.
 #[inline(always)]
 fn branch_carry_clear(core: &Core, pc: u32, half: u16) -> Quick
     requires { pc ≡ pc_of core.now }
@@ -588,7 +588,7 @@ fn branch_carry_clear(core: &Core, pc: u32, half: u16) -> Quick
     Quick::Went { pc: to }
 }
 
-/// B where C is set and Z is clear.
+/// B if C is set and Z is clear.
 #[inline(always)]
 fn branch_higher(core: &Core, pc: u32, half: u16) -> Quick
     requires { pc ≡ pc_of core.now }

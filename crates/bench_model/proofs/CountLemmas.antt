@@ -3,7 +3,7 @@ use Rattle.std.proofs.Common.{◌≡◌, ◌≤◌, ℕ, Bool, true, false, subs
 use Rattle.faults.specs.Counts.{Rose}
 use Rattle.bench_model.specs.Counted.{IsCounted}
 
--- a count after two calls, of which the first has no fault
+-- a count after two calls, the first of them without a fault
 pub counted_then : (a b c : ℕ) (first then' : Bool) → first ≡ false → IsCounted a b first → IsCounted b c then' → IsCounted a c then'
 counted_then a b c first then' still one two = subst (λ (n : ℕ). IsCounted n c then') (one.on_other still) two
 

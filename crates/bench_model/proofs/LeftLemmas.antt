@@ -32,7 +32,7 @@ get_or-stretch from n xs i below inside =
 length-front : (n : ℕ) (xs : List ℕ) → n ≤ length xs → length (take n xs) ≡ n
 length-front n xs le = omega (arith, length-take n xs)
 
--- a list that begins as f and goes on with a stretch of xs
+-- a list that begins as f and continues with a stretch of xs
 module _ (at n : ℕ) (f xs : List ℕ) (le : at ≤ length f) where
   joined : List ℕ
   joined = take at f ++ stretch at n xs

@@ -170,7 +170,7 @@ in_open bytes op at len is cells new items = subst (λ (o : Option (ℕ × ℕ))
 pub length-open : (n : ℕ) (op : Option (ℕ × ℕ)) (at len : ℕ) → IsOpen n op → op ≡ Some (at, len) → n ≡ len
 length-open n op at len is_open is = sym (subst (λ (o : Option (ℕ × ℕ)). IsOpen n o) is is_open)
 
--- One call more in the record.
+-- The record with one call more.
 module _ (r r' : Recorded) (e : Event) (is : r' ≡ noted e r) where
   pub held-after : held_now r' ≡ after e (held_now r)
   held-after = ap (λ (q : Recorded). held_now q) is ∙ replay-push r.events e r.made
@@ -259,7 +259,7 @@ module _ (r r' : Recorded) (e : Event) (is : r' ≡ noted e r) where
         (λ f next. now_left f (subst (λ (x : List ℕ). IsLeft (held_now r).kept x)
         (sym (synced_only (held_now r).kept.file f (subst (λ (d : Event). IsLeft (after d (held_now r)).kept f) same next))) now_read))
 
-    -- after a sync a stop leaves the file as it reads
+    -- after a sync a stop leaves the file as a read gives it
     pub synced_leaves_only : e ≡ synced → LeftOnly file (half_of FileOf r')
     synced_leaves_only same f at =
         let is_synced : held_now r' ≡ after synced (held_now r) = held-after ∙ ap (λ (d : Event). after d (held_now r)) same in

@@ -1,4 +1,4 @@
--- What a file in memory keeps so that a stop can be played, and which files a stop may leave.
+-- What a file in memory keeps of its past, and which files a stop may leave.
 use Rattle.std.specs.Prelude.{◌<◌, ◌≤◌, ◌+◌, ◌≡◌, ◌⊎◌, ℕ, List, [], ◌∷◌, length, take, max, min, slice_index}
 use Rattle.bench_model.specs.Calls.{written}
 
@@ -29,7 +29,7 @@ abbrev pub IsWritten : List (ℕ × ℕ) → ℕ → Type 0
 IsWritten [] i = ⊥
 IsWritten (range ∷ ranges) i = ((range.0 ≤ i) × (i < range.0 + range.1)) ⊎ IsWritten ranges i
 
--- a byte is pending: it was written since the last sync, or is past the least length since then
+-- a byte is pending: it was written since the last sync, or is at or past the least length since then
 abbrev pub IsPending : Kept → ℕ → Type 0
 IsPending k i = IsWritten k.ranges i ⊎ (k.least ≤ i)
 

@@ -57,8 +57,7 @@ abbrev pub replay : List Event → Held → Held
 replay [] h = h
 replay (e ∷ es) h = replay es (after e h)
 
--- the record: the bench when the record began, the calls since then, the units that they use, the units that there is room for, and the
--- longest file that there is room for
+-- the record: the bench when it began, the calls since then with the units that they use, and the room for units and for the longest file
 pub record Recorded : Type 0 where
   pub made : Held
   pub events : List Event

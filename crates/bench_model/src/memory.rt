@@ -82,7 +82,7 @@ impl MemoryBench {
         })
     }
 
-    /// The cells.
+    /// The cells of the bench.
     pub fn cells(&self) -> &[u8]
         ensures { result.now ≡ (bench_of self.now).cells }
     {

@@ -23,7 +23,7 @@ module _ (b : BoardShown) (a : AlgorithmShown) (region : ℕ) (Between : ℕ →
   abbrev next : World → Duty → World
   next w d = after s w (request_of s site.layout d)
 
-  -- these calls and UnInit are kept
+  -- a list of calls and the UnInit after it are kept
   abbrev KeepOn : ℕ → World → List Duty → Type 0
   KeepOn kind w works = KeepAll s site w (works ++ Quiet (asked (call.UnInit kind) []) ∷ [])
 

@@ -1,4 +1,4 @@
--- A call from a state between two calls: where it begins, and what its end decides.
+-- A call from a state between two calls: its first point, and what its end decides.
 use Rattle.std.proofs.Common.{◌≡◌, ◌<◌, ◌≤◌, ◌+◌, ◌-◌, ◌^◌, ℕ, Bool, true, false, List, [], ◌∷◌, map, length, slice_index, get_or, Option, Some, None}
 use Rattle.std.proofs.Common.{is_some, IfSome, IfOk, Result, Ok, Err, refl, sym, ap, subst, ◌∙◌, ⊎_elim, arith}
 use Rattle.std.proofs.lemmas.Bool.{cases_lt}

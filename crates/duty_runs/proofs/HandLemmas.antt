@@ -40,7 +40,7 @@ went_so (step.Unaligned at) pc none = cc
 went_so (step.BadState at) pc none = cc
 went_so step.Device pc none = cc
 
--- a step where no end is found went
+-- a step continues if no end is found
 no_end : (here used : Bool) (r : RunEnd) (pc : ℕ) (e : StepEnd) → (if here then Some r else if used then Some (run.NoFuel pc) else run_end e pc) ≡ None →
     (here ≡ false) × (e ≡ step.Went)
 no_end true used r pc e none = cc

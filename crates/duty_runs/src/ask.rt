@@ -17,13 +17,13 @@ use std::alloc::Global;
 /// What a call has to do.
 #[derive(Clone, Copy, PartialEq, Eq)]
 pub enum Task {
-    /// It changes no cell, such as Init and UnInit.
+    /// The call changes no cell, such as Init and UnInit.
     Quiet,
-    /// It erases its cells.
+    /// The call erases its cells.
     Erases,
-    /// It programs the bytes to its cells, which are erased before.
+    /// The call programs the bytes to its cells, which are erased before.
     Programs,
-    /// It compares its cells with the bytes, which they hold before.
+    /// The call compares its cells with the bytes, which they hold before.
     Compares,
 }
 

@@ -15,11 +15,11 @@ use target_core::AnyRegisters;
 pub struct Between {
     /// The bytes of the RAM.
     pub ram: Vec<u8>,
-    /// Which of them are the same in every run.
+    /// Which bytes of the RAM are the same in every run.
     pub known: Vec<bool>,
-    /// The controller.
+    /// The state of the controller.
     pub state: State<AnyRegisters>,
-    /// Whether its address register is the same in every run.
+    /// Whether the controller's address register is the same in every run.
     pub address: bool,
 
     pub ghost idle: { state.operation ≡ None },
@@ -33,7 +33,7 @@ pub(crate) fn known_of(alloc: Global, marks: &[Mark]) -> Result<Vec<bool>, OutOf
     Ok(marks.iter().map(|mark| mark.is_known()).collect(alloc)?)
 }
 
-/// Marks that are known, or nothing is.
+/// A mark for each place: Known if the place is known, or Any.
 fn marks_of(alloc: Global, known: &[bool]) -> Result<Vec<Mark>, OutOfMemory>
     ensures { IfOk result (λ marks. marks.items ≡ map known_if known.now) }
 {
@@ -50,7 +50,7 @@ impl Between {
     ghost use Rattle.duty_proofs.specs.Views.{marks_in};
     ghost use Rattle.duty_runs.specs.States.{state_marks};
 
-    /// The marks of a run's target from here, before those of its call.
+    /// The marks of the target in this state, before those of a call are added.
     pub(crate) fn marks<'a>(
         &self,
         alloc: Global,

@@ -1,4 +1,4 @@
-//! A target with an algorithm, on which calls are made step by step.
+//! A target with an algorithm, for calls that are made step by step.
 
 ghost use Rattle.std.specs.Prelude.{◌≡◌};
 ghost use Rattle.flash_layout.specs.Maps.{map_of};
@@ -15,7 +15,7 @@ use ram_arena::Arena;
 use std::alloc::Global;
 use target_core::{RunEnd, SliceEnd};
 
-/// A target with an algorithm that is loaded, and the map of its flash.
+/// A target with a loaded algorithm, and the map of its flash.
 #[derive(Drop)]
 pub struct Hand<'a> {
     pub(crate) calls: CallsIn,
@@ -40,7 +40,7 @@ impl<'a> Hand<'a> {
     ghost use Rattle.duty_runs.specs.Hands.{hand_setup, hand_base, hand_map, hand_point};
     ghost use Rattle.duty_runs.specs.Steps.{Advances};
 
-    /// The calls of an algorithm that is loaded into the first window of an arena, and the map of the board.
+    /// The calls of an algorithm that is loaded in the first window of an arena, and the map of the board.
     pub fn new(calls: CallsIn, arena: Arena, map: &'a FlashMap) -> Hand<'a>
         requires fits { Fits calls arena 0 }
         requires map { map_of map.now ≡ unit_map calls.machine.unit }
@@ -98,7 +98,7 @@ impl<'a> Hand<'a> {
         })
     }
 
-    /// The halfword of the RAM at an address, where there is one.
+    /// The halfword of the RAM at an address, if there is one.
     #[tactic(auto, using(crate::proofs::HandLemmas::half_read))]
     pub(crate) fn half(&self, at: u32) -> Option<u16>
         ensures { IfSome result (λ half. (cells : List ℕ) → (world_answer (hand_point self.now cells).world (Load 2 at)).0 ≡ Ok half) }
@@ -111,7 +111,7 @@ impl<'a> Hand<'a> {
         Some(self.arena.load16(0, at - base) as u16)
     }
 
-    /// Makes one step, if it goes.
+    /// Makes one step, if it continues.
     pub(crate) fn advance(&mut self, bench: &mut MemoryBench) -> Result<(), RunEnd>
         requires { AgreesAt true self.old.calls (bench_of bench.old) }
         ensures goes { IfOk result (λ done. Advances self.old.calls.machine.return_at (hand_point self.old (bench_of bench.old).cells)

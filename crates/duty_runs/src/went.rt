@@ -53,7 +53,7 @@ pub enum Went {
     Undecided {
         /// The address of the instruction at which the run stopped.
         pc: u32,
-        /// Why.
+        /// Why the run decides nothing.
         why: Cause,
     },
 }

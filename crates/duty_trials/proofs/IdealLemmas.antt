@@ -1,4 +1,4 @@
--- What the ideal device leaves, where the places of a sector, a page or the region are written.
+-- What the ideal device leaves when the places of a sector, a page or the region are written.
 use Rattle.std.proofs.Common.{◌≡◌, ◌<◌, ◌≤◌, ◌+◌, ◌-◌, ◌∙◌, ⊎_elim, inl, inr, ℕ, List, length, take, drop, slice_index, set, Some, refl, sym}
 use Rattle.std.proofs.Common.{ap, length-take, length-drop, arith}
 use Rattle.std.proofs.lemmas.Grind.{same_number_lists}

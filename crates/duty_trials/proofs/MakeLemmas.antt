@@ -1,4 +1,4 @@
--- A prepared call that is made in one slice is the call.
+-- A prepared call that is made in one slice is the whole call.
 use Rattle.std.proofs.Common.{◌≡◌, ℕ, [], ◌∷◌, length, inl, sym, subst}
 use Rattle.bench_model.specs.Shown.{bench_of}
 use Rattle.bench_model.specs.declared.memory.MemoryBench.{MemoryBench}

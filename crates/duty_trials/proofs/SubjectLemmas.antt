@@ -1,4 +1,4 @@
--- What is tried: the cells of a board's regions, where those of one begin, and the sectors and pages of an algorithm's device.
+-- The subject of trials: the cells of a board's regions, the first cell of each, and the sectors and pages of an algorithm's device.
 use Rattle.std.proofs.Common.{◌≡◌, ◌<◌, ◌≤◌, ◌+◌, ◌-◌, ◌^◌, ℕ, zero, suc, Bool, if◌then◌else◌, List, [], ◌∷◌, length, length-take, take, drop, get_or, Ok, Err}
 use Rattle.std.proofs.Common.{le-leb, refl, ◌∙◌, ap, subst, add-one, arith}
 use Rattle.std.proofs.lemmas.Option.{slice_get_within, get_or_from_slice_get}
@@ -27,12 +27,12 @@ more (r ∷ rest) (suc k) other less =
     let later : cells_before (areas_of rest) (suc k) ≡ cells_before (areas_of rest) k + (get_or rest k other).size = more rest k other (omega (arith, less)) in
     omega (arith, later)
 
--- one region more
+-- the cells of the regions before one, and of that region
 pub before_more : (regions : List Region) (k : ℕ) (other : Region) → k < length regions
     → cells_before (areas_of regions) (k + 1) ≡ cells_before (areas_of regions) k + (get_or regions k other).size
 before_more regions k other less = ap (λ (n : ℕ). cells_before (areas_of regions) n) (add-one k) ∙ more regions k other less
 
--- those before a region are no more than all
+-- the cells of the regions before one are no more than all cells
 pub before_few : (regions : List Region) (k : ℕ) → cells_before (areas_of regions) k ≤ cells_in (areas_of regions)
 before_few [] zero = omega arith
 before_few [] (suc k) = omega arith
@@ -44,16 +44,16 @@ pub region_within : (regions : List Region) (k : ℕ) (other : Region) → k < l
     → cells_before (areas_of regions) k + (get_or regions k other).size ≤ cells_in (areas_of regions)
 region_within regions k other less = omega (arith, before_more regions k other less, before_few regions (k + 1))
 
--- a board has few cells
+-- a board has fewer than 2^32 cells
 pub board_few : (b : Board) (regions : List Region) → regions ≡ b.regions → cells_in (areas_of regions) < 2 ^ 32
 board_few b regions is = omega (arith, cells_sum regions, ap (λ (rs : List Region). size_of rs) is, b.few_cells)
 
--- all regions
+-- the cells of all regions are all cells
 pub before_all : (regions : List Region) → cells_before (areas_of regions) (length regions) ≡ cells_in (areas_of regions)
 before_all [] = refl
 before_all (r ∷ rest) = ap (λ (n : ℕ). r.size + n) (before_all rest)
 
--- an algorithm that is one for a region has room
+-- the RAM has room for an algorithm that is one for a region
 pub is_placed : (b : BoardShown) (a : AlgorithmShown) (region : ℕ) → IsFit b a region → placed a b ≡ Ok (layout_of a b)
 is_placed b a region fit =
     ap (λ (t : Bool). if t then Ok (layout_of a b) else Err (record { need = need_of a b; have = b.ram_size })) (le-leb (need_of a b) b.ram_size fit.room)
@@ -72,7 +72,7 @@ fit_within b a region fit =
       ),
     )
 
--- ---- what is tried
+-- ---- the subject of trials
 
 pub layout_good : (t : Subject) → IsGeometry (site_in t).layout
 layout_good t = geometry_lawful (shape t.algorithm.now.device.size t.algorithm.now.device.page t.algorithm.now.items) t.algorithm.now.lawful
@@ -94,11 +94,11 @@ pub taken_short : (t : Subject) (k : ℕ) (span : Span) (cells : List ℕ) → k
     → length (take (span.to - span.from) (drop span.from cells)) ≤ t.algorithm.now.device.page
 taken_short t k span cells less is = omega (arith, page_short t k span less is, length-take (span.to - span.from) (drop span.from cells))
 
--- a place and a length are a range
+-- a place and a length give a range
 range_as : (r : Range) (at len : ℕ) → IsAt r at len → range at (at + len) ≡ r
 range_as r at len is = ap (λ (n : ℕ). range n (at + len)) is.0 ∙ ap (λ (n : ℕ). range r.start n) is.1
 
--- that of a sector or a page has a place, and lies in the device
+-- the range of a sector or a page has at least one cell, and is within the device
 pub some_in : (size : ℕ) (rs : List Range) (k at len : ℕ) → IsPartition size rs → k < length rs → IsAt (range_at rs k) at len → (0 < len) × (at + len ≤ size)
 some_in size rs k at len part less is = (omega (arith, part.some k less, is.0, is.1), omega (arith, part.below k less, is.1))
 

@@ -1,4 +1,4 @@
--- What a call more makes of the counts.
+-- The counts after one call more.
 use Rattle.std.proofs.Common.{◌≡◌, ◌≤◌, ◌+◌, ℕ, sym, subst, arith}
 use Rattle.algo_calls.specs.declared.call.Call.{Call}
 use Rattle.algo_calls.specs.declared.call.Call.TheVariants as call

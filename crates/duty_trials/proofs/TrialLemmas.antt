@@ -1,4 +1,4 @@
--- A call of a list that isn't kept refutes that the algorithm keeps its duties.
+-- An algorithm doesn't keep its duties if a call of a list isn't kept.
 use Rattle.std.proofs.Common.{◌≡◌, ◌≤◌, ◌+◌, ℕ, false, List, [], ◌∷◌, ◌++◌, length, refl, sym, ◌∙◌, ap, subst}
 use Rattle.bench_model.specs.State.{BenchState}
 use Rattle.board_file.specs.Shown.{Shown as BoardShown}
@@ -30,7 +30,7 @@ refutes b a region cells phase before d x serves =
     (subst (λ (l : List Duty). KeepAll (setup_of a b) (site_of b a region) (ready b a cells) l) x.list
     (serves.keeps cells phase x.asked.long x.asked.bytes x.asked.may x.asked.some x.asked.ready)))
 
--- a call that leaves another contents than the ideal device isn't kept
+-- a call that leaves other contents than the ideal device isn't kept
 pub cell_differs : (s : Setup) (site : Site) (w : World) (d : Duty) (r : Request) (start : BenchState) (e : CallEnd) (w' : World) (end : BenchState)
     (wanted : List ℕ)
     → request_of s site.layout d ≡ r → CallGives s w r start e w' end → is_device_call e ≡ false → Does s site w.cells d wanted

@@ -16,7 +16,7 @@ use flm_descriptor::Algorithm;
 use page_geometry::Geometry;
 use std::alloc::Global;
 
-/// An algorithm, and the region of a board whose device it serves.
+/// An algorithm, and the region of a board that is its device.
 #[derive(Drop)]
 pub struct Subject<'a> {
     pub board: &'a Board,

@@ -65,7 +65,7 @@ impl Watch<MemoryBench> {
         self.outside = None;
     }
 
-    /// The cells.
+    /// The cells of the bench.
     pub(crate) fn cells(&self) -> &[u8]
         ensures { result.now ≡ (bench_of self.now.inner).cells }
     {

@@ -26,7 +26,7 @@ pub struct Sizes {
 }
 
 impl Sizes {
-    /// Where the code begins.
+    /// The offset of the code, in bytes from the file's start.
     pub fn code_at(&self) -> u32
         requires { end_of self.now < 2 ^ 32 }
         ensures { result ≡ code_at self.now }
@@ -34,7 +34,7 @@ impl Sizes {
         SYMBOLS_AT + self.symbols
     }
 
-    /// Where the data begins.
+    /// The offset of the data, in bytes from the file's start.
     pub fn init_data_at(&self) -> u32
         requires { end_of self.now < 2 ^ 32 }
         ensures { result ≡ init_data_at self.now }
@@ -42,7 +42,7 @@ impl Sizes {
         self.code_at() + self.code
     }
 
-    /// Where the description begins.
+    /// The offset of the description, in bytes from the file's start.
     pub fn descriptor_at(&self) -> u32
         requires { end_of self.now < 2 ^ 32 }
         ensures { result ≡ descriptor_at self.now }
@@ -50,7 +50,7 @@ impl Sizes {
         self.init_data_at() + self.init_data
     }
 
-    /// Where the section headers begin.
+    /// The offset of the section headers, in bytes from the file's start.
     pub fn headers_at(&self) -> u32
         requires { end_of self.now < 2 ^ 32 }
         ensures { result ≡ headers_at self.now }

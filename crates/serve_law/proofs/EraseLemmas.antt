@@ -147,7 +147,7 @@ module _ (g : Given) (x : Range) (c a : ℕ) (ram cells : List ℕ) (home : IsHo
   unfolding computed first_point all_idle
   five = idle_goes r 5 first home refl refl
 
-  -- the registers that the sixth instruction leaves, given what lies at the address
+  -- the registers after the sixth instruction, from what is at the address
   abbrev ordered_at : Option SectorCells → Stored AnyRegisters
   ordered_at o = leaves (unlocked 2 at) (does_as Fc1 (begins_or (erases g.erase_ticks o) (regs 2 at) (record (regs 2 at) { range = true })))
 

@@ -70,7 +70,7 @@ module _ (p : Pages) (t : CoreMarks) (core core' : Core) (next next' : ℕ) (agr
   link_agrees : CoreAgrees p (linked_marks t) (linked core next) (linked core' next')
   link_agrees = put_agrees p t core core' agrees LR Known (sum next 1) (sum next' 1) (ap (λ (x : ℕ). sum x 1) follows)
 
-  -- where the marks depend on a known mark, nothing is said if it isn't known
+  -- if marks depend on a known mark, nothing is said when it isn't known
   where_known : (k : Bool) (some : Option CoreMarks) (o o' : Outcome) → (k ≡ true → Lockstep p some o o') → Lockstep p (if k then some else None) o o'
   where_known true some o o' step = step refl
   where_known false some o o' step = tt

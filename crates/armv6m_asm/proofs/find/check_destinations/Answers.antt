@@ -1,4 +1,4 @@
--- `check_destinations`: its clauses `err` and `ok`, and that its loop keeps what it has to.
+-- `check_destinations`: its clauses `err` and `ok`, and that its loop keeps its invariant.
 use Rattle.std.proofs.Common.{List, subst, arith}
 use Rattle.std.specs.Prelude.{Contains, All}
 use Rattle.std.proofs.lemmas.List.{take_all}

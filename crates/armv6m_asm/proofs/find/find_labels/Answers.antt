@@ -1,4 +1,4 @@
--- `find_labels`: its clauses `err` and `ok`, that its loop keeps what it has to, and that no number overflows.
+-- `find_labels`: its clauses `err` and `ok`, that its loop keeps its invariant, and that no number overflows.
 use Rattle.std.proofs.Common.{◌+◌, ℕ, subst, sym, arith}
 use Rattle.std.proofs.lemmas.Result.{err_from_is_err_and}
 use Rattle.armv6m_asm.proofs.Steps.{HasFound, nothing, place_fits, found_more, found_fault, found_all}

@@ -1,4 +1,4 @@
--- `last_list`: that its loop keeps what it has to.
+-- `last_list`: that its loop keeps its invariant.
 use Rattle.std.proofs.Common.{sym, ◌∙◌}
 use Rattle.armv6m_asm.proofs.ListLemmas.{list_of-more}
 use Rattle.armv6m_asm.proofs.list.last_list.Goals as goal

@@ -1,4 +1,4 @@
--- `last_list`: what holds at each turn of its loop, and what falls with it.
+-- `last_list`: what holds at each turn of its loop, and what decreases at each turn.
 use Rattle.std.proofs.Common.{◌≡◌, length}
 use Rattle.armv6m_asm.specs.Reading.{symbols_of, list_of}
 use Rattle.armv6m_asm.proofs.list.last_list.Given as goal

@@ -1,4 +1,4 @@
--- `read_all`: its clauses `err` and `ok`, and that its loop keeps what it has to.
+-- `read_all`: its clauses `err` and `ok`, and that its loop keeps its invariant.
 use Rattle.std.proofs.Common.{◌+◌, List, subst, sym, arith}
 use Rattle.octets.specs.Lines.{lines_of}
 use Rattle.armv6m_asm.specs.declared.statement.Statement.{Statement}

@@ -1,4 +1,4 @@
--- `read_all`: what holds at each turn of its loop, and what falls with it.
+-- `read_all`: what holds at each turn of its loop, and what decreases at each turn.
 use Rattle.std.proofs.Common.{◌-◌, length}
 use Rattle.armv6m_asm.proofs.Steps.{HasRead}
 use Rattle.armv6m_asm.proofs.read.read_all.Given as goal

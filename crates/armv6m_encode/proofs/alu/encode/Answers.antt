@@ -6,7 +6,7 @@ use Rattle.armv6m_decode.specs.declared.instr.Decoded.TheVariants.{Op}
 use Rattle.armv6m_decode.specs.Table.{decoded}
 use Rattle.armv6m_encode.proofs.alu.encode.Goals as goal
 
--- what is read as an arm's row is read as the instruction
+-- a halfword that decodes to the row of an arm decodes to the instruction
 arm : (code : ℕ) (op row : Alu) → op ≡ row → decoded code ≡ Op (instr.Alu row) → decoded code ≡ Op (instr.Alu op)
 arm code op row is read = read ∙ ap (λ (a : Alu). Op (instr.Alu a)) (sym is)
 

@@ -6,7 +6,7 @@ use Rattle.armv6m_decode.specs.declared.instr.Decoded.TheVariants.{Op}
 use Rattle.armv6m_decode.specs.Table.{decoded}
 use Rattle.armv6m_encode.proofs.memory.encode.Goals as goal
 
--- what is read as an arm's row is read as the instruction
+-- a halfword that decodes to the row of an arm decodes to the instruction
 arm : (code : ℕ) (op row : Memory) → op ≡ row → decoded code ≡ Op (instr.Memory row) → decoded code ≡ Op (instr.Memory op)
 arm code op row is read = read ∙ ap (λ (m : Memory). Op (instr.Memory m)) (sym is)
 

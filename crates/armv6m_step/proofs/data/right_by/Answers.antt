@@ -1,4 +1,4 @@
--- A shift to the right by one shift, and another by one.
+-- A right shift by all bits but one, then by one.
 use Rattle.armv6m_step.proofs.ShiftLemmas.{right}
 use Rattle.armv6m_step.proofs.data.right_by.Goals as goal
 

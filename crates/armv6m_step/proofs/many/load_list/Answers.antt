@@ -1,4 +1,4 @@
--- `load_list`: that it keeps its contract, and that its loop keeps what it has to.
+-- `load_list`: that it keeps its contract, and that its loop keeps its invariant.
 use Rattle.std.proofs.Common.{arith}
 use Rattle.armv6m_step.proofs.ListLemmas.{loaded_so_far}
 use Rattle.std.proofs.lemmas.Bool.Decides.{nat_tests}

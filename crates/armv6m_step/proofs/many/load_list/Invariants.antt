@@ -1,4 +1,4 @@
--- `load_list`: what holds at each turn of its loop, and what falls with it.
+-- `load_list`: what holds at each turn of its loop, and what decreases at each turn.
 use Rattle.armv6m_step.proofs.ListLemmas.{LoadedTo}
 use Rattle.armv6m_step.proofs.many.load_list.Given as goal
 

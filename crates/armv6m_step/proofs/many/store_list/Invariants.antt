@@ -1,4 +1,4 @@
--- `store_list`: what holds at each turn of its loop, and what falls with it.
+-- `store_list`: what holds at each turn of its loop, and what decreases at each turn.
 use Rattle.armv6m_step.proofs.ListLemmas.{StoredTo}
 use Rattle.armv6m_step.proofs.many.store_list.Given as goal
 

@@ -1,4 +1,4 @@
--- Each arm does its row but for the PC, or the whole step, or nothing.
+-- Each arm does the instruction of its row in all but the PC, or the whole step, or nothing.
 use Rattle.std.proofs.Common.{subst}
 use Rattle.armv6m_decode.specs.declared.instr.Instr.TheVariants as instr
 use Rattle.armv6m_step.specs.declared.arms.Arm.{Arm}

@@ -1,4 +1,4 @@
--- A step with the PC at hand is the step of the core that has it.
+-- A step with the PC kept apart is the step of the core with that PC.
 use Rattle.std.proofs.Common.{sym, ap, ◌∙◌, arith}
 use Rattle.armv6m_step.specs.Registers.{pc_of, moved}
 use Rattle.armv6m_step.specs.Step.{instruction}

@@ -1,4 +1,4 @@
--- `put_clear`: that its loop keeps what it has to, and that each place is inside.
+-- `put_clear`: that its loop keeps its invariant, and that each place is inside.
 use Rattle.std.proofs.Common.{◌∙◌, true, false, arith}
 use Rattle.std.proofs.lemmas.Grind.{common_steps}
 use Rattle.std.proofs.lemmas.List.{get_or_default}

@@ -1,4 +1,4 @@
--- `empty_pages`: that it keeps its contract, and that its loop keeps what it has to.
+-- `empty_pages`: that it keeps its contract, and that its loop keeps its invariant.
 use Rattle.std.proofs.Common.{arith}
 use Rattle.duty_rounds.proofs.ContentLemmas.{may_more, member_inside}
 use Rattle.duty_rounds.proofs.contents.empty_pages.Goals as goal

@@ -1,4 +1,4 @@
--- `judge`: its clauses `says` and `proved`, and that its loop keeps what it has to.
+-- `judge`: its clauses `says` and `proved`, and that its loop keeps its invariant.
 use Rattle.std.proofs.Common.{◌≡◌, ◌+◌, sym, ap, ◌∙◌, refl, subst, arith, true, false, map}
 use Rattle.std.proofs.lemmas.List.{length-map}
 use Rattle.board_file.specs.Shown.{shown as board_of}

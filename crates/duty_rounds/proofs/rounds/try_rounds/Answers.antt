@@ -1,4 +1,4 @@
--- `try_rounds`: that it keeps its contract, and that its loop keeps what it has to.
+-- `try_rounds`: that it keeps its contract, and that its loop keeps its invariant.
 use Rattle.std.proofs.Common.{◌≡◌, sym, ◌∙◌, true, false}
 use Rattle.duty_trials.specs.Subjects.{board_in, algorithm_in}
 use Rattle.duty_rounds.proofs.RoundLemmas.{still_tried, tried_is}

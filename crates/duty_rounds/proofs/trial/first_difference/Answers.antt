@@ -1,4 +1,4 @@
--- `first_difference`: that a place lies among the cells.
+-- `first_difference`: that a place is among the cells.
 use Rattle.std.proofs.Common.{arith}
 use Rattle.std.proofs.lemmas.Grind.{common_steps}
 use Rattle.duty_rounds.proofs.trial.first_difference.Goals as goal

@@ -1,4 +1,4 @@
--- `fill`: that its loop keeps what it has to.
+-- `fill`: that its loop keeps its invariant.
 use Rattle.duty_trials.proofs.IdealLemmas.{only_none, only_more, filled_more}
 use Rattle.std.proofs.Common.{arith}
 use Rattle.duty_trials.proofs.ideal.fill.Goals as goal

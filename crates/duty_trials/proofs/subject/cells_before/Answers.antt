@@ -1,4 +1,4 @@
--- `cells_before`: that it keeps its contract, that its loop keeps what it has to, and that its sum fits.
+-- `cells_before`: that it keeps its contract, that its loop keeps its invariant, and that its sum fits.
 use Rattle.std.proofs.Common.{◌≡◌, ℕ, ap, arith, refl, subst}
 use Rattle.board_file.specs.declared.region.Region.{Region}
 use Rattle.flash_layout.specs.Areas.{areas_of}

@@ -1,4 +1,4 @@
--- `items`: that its loop keeps what it has to, that it keeps its contract, and that no number overflows.
+-- `items`: that its loop keeps its invariant, that it keeps its contract, and that no number overflows.
 use Rattle.std.proofs.Common.{◌+◌, ◌*◌, ◌++◌, List, drop, get_or, sym, ap, ◌∙◌, arith}
 use Rattle.std.proofs.lemmas.Grind.{common_steps}
 use Rattle.board_file.specs.declared.sectors.SectorRun.{SectorRun}

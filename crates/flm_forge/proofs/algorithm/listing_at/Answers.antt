@@ -12,7 +12,7 @@ use Rattle.flm_forge.specs.Texts.{lines, text_of}
 use Rattle.flm_forge.proofs.RegionLemmas.{sectors_small}
 use Rattle.flm_forge.proofs.algorithm.listing_at.Goals as goal
 
--- the parts of a listing, each by what it is
+-- a listing from its parts
 listed : (number : ℕ) (kind : Kind) (base page : ℕ) (r : Region) (text init_data name : List ℕ) (items : List SectorItem) (hidden : List Name)
     → text ≡ text_of (lines kind base) → init_data ≡ [] → name ≡ device_name kind → items ≡ items_from 0 r.sectors → hidden ≡ hidden_in number kind
     → ◌≡◌ {A = Listing} (record {

@@ -1,4 +1,4 @@
--- `put_items`: that its loop keeps what it has to.
+-- `put_items`: that its loop keeps its invariant.
 use Rattle.std.proofs.Common.{arith}
 use Rattle.std.proofs.lemmas.Grind.{common_steps}
 use Rattle.std.proofs.lemmas.List.Elements.{All-more}

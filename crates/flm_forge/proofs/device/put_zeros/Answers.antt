@@ -1,4 +1,4 @@
--- `put_zeros`: that its loop keeps what it has to.
+-- `put_zeros`: that its loop keeps its invariant.
 use Rattle.std.proofs.Common.{arith}
 use Rattle.std.proofs.lemmas.Grind.{common_steps}
 use Rattle.flm_forge.proofs.device.put_zeros.Goals as goal

@@ -1,4 +1,4 @@
--- `put_halves`: that its loop keeps what it has to.
+-- `put_halves`: that its loop keeps its invariant.
 use Rattle.std.proofs.Common.{arith}
 use Rattle.std.proofs.lemmas.Grind.{common_steps}
 use Rattle.flm_forge.proofs.write.put_halves.Goals as goal

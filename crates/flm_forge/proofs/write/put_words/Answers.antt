@@ -1,4 +1,4 @@
--- `put_words`: its clause `fit`, and that its loop keeps what it has to.
+-- `put_words`: its clause `fit`, and that its loop keeps its invariant.
 use Rattle.std.proofs.Common.{◌<◌, ◌^◌, ℕ, subst, arith}
 use Rattle.std.proofs.lemmas.Grind.{common_steps}
 use Rattle.std.proofs.lemmas.List.{get_or_default}

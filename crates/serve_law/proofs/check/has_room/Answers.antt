@@ -1,4 +1,4 @@
--- `has_room`: that it keeps its contract where there is a layout.
+-- `has_room`: that it keeps its contract if there is a layout.
 use Rattle.std.proofs.Common.{arith}
 use Rattle.std.proofs.lemmas.Grind.{common_steps}
 use Rattle.serve_law.proofs.check.has_room.Goals as goal

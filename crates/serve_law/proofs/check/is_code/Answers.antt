@@ -1,4 +1,4 @@
--- `is_code`: that it keeps its contract where all holds.
+-- `is_code`: that it keeps its contract if all holds.
 use Rattle.std.proofs.Common.{arith}
 use Rattle.std.proofs.lemmas.Grind.{common_steps}
 use Rattle.serve_law.proofs.check.is_code.Goals as goal

@@ -1,4 +1,4 @@
--- `is_quick`: that it keeps its contract where the pages are quick.
+-- `is_quick`: that it keeps its contract if the pages are quick.
 use Rattle.std.proofs.Common.{arith}
 use Rattle.std.proofs.lemmas.Grind.{common_steps}
 use Rattle.serve_law.proofs.check.is_quick.Goals as goal

@@ -1,4 +1,4 @@
--- `Labels::get`: its clauses `cases` and `first`, and that its loop keeps what it has to.
+-- `Labels::get`: its clauses `cases` and `first`, and that its loop keeps its invariant.
 use Rattle.std.proofs.Common.{◌≡◌, ◌≢◌, ◌∙◌, List, sym, take, subst, arith}
 use Rattle.std.specs.Prelude.{Contains}
 use Rattle.std.proofs.lemmas.Bool.{false≢true}

@@ -1,4 +1,4 @@
--- `Record::note`: that it keeps its contract, and that its result is as its type asks.
+-- `Record::note`: that it keeps its contract, and that its result meets the clauses of its type.
 use Rattle.std.proofs.lemmas.Grind.{common_steps}
 use Rattle.std.proofs.Common.{sym, subst, arith, ℕ, List, Bool, length}
 use Rattle.bench_model.specs.Record.{Held, Recorded, CanMark, HasRoom, IsMarked, after, at_rest, event_of, events_of, held_now, replay}

@@ -1,4 +1,4 @@
--- `Record::note_sync`: that it keeps its contract, and that its result is as its type asks.
+-- `Record::note_sync`: that it keeps its contract, and that its result meets the clauses of its type.
 use Rattle.std.proofs.lemmas.Grind.{common_steps}
 use Rattle.std.proofs.Common.{◌≡◌, sym, subst, refl, arith, ℕ, List, [], Bool, length, replicate, false}
 use Rattle.bench_model.specs.Kept.{all_synced}

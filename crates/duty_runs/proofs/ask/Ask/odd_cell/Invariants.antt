@@ -1,4 +1,4 @@
--- `Ask::odd_cell`: the cells that have the marks that they are to have so far.
+-- `Ask::odd_cell`: the cells so far that have the marks that they need.
 use Rattle.std.proofs.Common.{◌≡◌, ◌<◌, ℕ, slice_index_or}
 use Rattle.shadow_step.specs.declared.marks.Mark.TheVariants.{Any}
 use Rattle.duty_proofs.specs.declared.cells.CellMark.TheVariants.{Holds}

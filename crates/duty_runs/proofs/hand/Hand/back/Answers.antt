@@ -1,4 +1,4 @@
--- `Hand::back`: its clause, and that no operation runs where the state is taken.
+-- `Hand::back`: its clause, and that no operation is open when the state is taken.
 use Rattle.std.proofs.Common.{refl, arith}
 use Rattle.std.proofs.lemmas.Grind.{common_steps}
 use Rattle.duty_runs.proofs.BackLemmas.{none_of}

@@ -1,4 +1,4 @@
--- `Filling::put`: that its loop keeps what it has to.
+-- `Filling::put`: that its loop keeps its invariant.
 use Rattle.std.proofs.Common.{◌≡◌, ◌+◌, ℕ, set, subst, arith}
 use Rattle.duty_trials.specs.Ended.{OnlyBetween}
 use Rattle.duty_trials.proofs.IdealLemmas.{only_none, only_more}

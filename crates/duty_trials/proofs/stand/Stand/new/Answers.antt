@@ -1,4 +1,4 @@
--- `Stand::new`: its clauses `world` and `setup`, what its calls ask for, and that its result is as its type asks.
+-- `Stand::new`: its clauses `world` and `setup`, what its calls ask for, and that its result meets the clauses of its type.
 use Rattle.std.proofs.Common.{ℕ, List, length, refl, sym, ap, ◌∙◌, arith}
 use Rattle.std.proofs.lemmas.List.{length-replicate}
 use Rattle.flash_layout.specs.Areas.{cells_in}

@@ -1,4 +1,4 @@
--- `Stand::step`: its clause `broken`, where an operation lay outside and where a cell differs, and its clauses `cells`, `bytes` and `calls`.
+-- `Stand::step`: its clause `broken`, for an operation outside and for a cell that differs, and its clauses `cells`, `bytes` and `calls`.
 use Rattle.std.proofs.lemmas.Grind.{common_steps}
 use Rattle.std.proofs.Common.{◌≡◌, ◌≤◌, ◌+◌, true, false, ℕ, List, refl, sym, ◌∙◌, ap, subst, arith}
 use Rattle.bench_model.specs.State.{BenchState}

@@ -1,4 +1,4 @@
--- `Subject::new`: what its calls ask for, and that its result is as its type asks.
+-- `Subject::new`: what its calls ask for, and that its result meets the clauses of its type.
 use Rattle.std.proofs.Common.{List, length, sym, ◌∙◌, ap, arith}
 use Rattle.board_file.specs.declared.region.Region.{Region}
 use Rattle.board_file.specs.Shown.{shown as board_of}

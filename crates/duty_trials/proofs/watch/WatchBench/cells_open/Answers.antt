@@ -1,4 +1,4 @@
--- `Watch::cells_open`: that what it keeps is as its type asks.
+-- `Watch::cells_open`: that the watch meets the clauses of its type.
 use Rattle.std.proofs.Common.{ℕ, Option, sym, subst, arith}
 use Rattle.bench_model.specs.State.{cells_half, SameOutside}
 use Rattle.duty_trials.proofs.WatchLemmas.{seen_now, seen_later}

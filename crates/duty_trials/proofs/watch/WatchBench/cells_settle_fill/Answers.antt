@@ -1,4 +1,4 @@
--- `Watch::cells_settle_fill`: that what it keeps is as its type asks, and its clause `does` on a fault.
+-- `Watch::cells_settle_fill`: that the watch meets the clauses of its type, and its clause `does` on a fault.
 use Rattle.std.proofs.Common.{rules, arith}
 use Rattle.bench_model.specs.State.{cells_half}
 use Rattle.duty_trials.proofs.WatchLemmas.{seen_later, seen_none}

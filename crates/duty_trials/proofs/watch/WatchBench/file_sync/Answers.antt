@@ -1,4 +1,4 @@
--- `Watch::file_sync`: that what it keeps is as its type asks.
+-- `Watch::file_sync`: that the watch meets the clauses of its type.
 use Rattle.std.proofs.Common.{◌∙◌}
 use Rattle.bench_model.specs.State.{cells_half}
 use Rattle.duty_trials.proofs.WatchLemmas.{seen_later}

@@ -1,4 +1,4 @@
--- `Mark::is_same_part`: parts of one width are the same where they begin at the same byte.
+-- `Mark::is_same_part`: parts of one width are the same if they begin at the same byte.
 use Rattle.std.proofs.Common.{arith}
 use Rattle.std.proofs.lemmas.Bool.Decides.{nat_tests}
 use Rattle.std.proofs.lemmas.Grind.{common_steps}
