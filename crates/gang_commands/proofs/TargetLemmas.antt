@@ -233,7 +233,7 @@ carried_closes : {B : Type 0} (G : Ghosts B) (status : ℕ) (s : BenchState) (x 
     → (HasNoClose status → has_no_close x.end ≡ true) → ClosesEach status s t
 carried_closes G status s x t c none_is job b xs is whole =
     let one : AreOne c.stands.text job (board.shown c.job.board) b (algorithms_shown c.job.algorithms) xs =
-        one_job s.file c.stands.is is c.stands.whole whole in
+    one_job s.file c.stands.is is c.stands.whole whole in
     subst (λ (k : text.Job). ClosesOn status s t (aim_of k b)) one.job
     (subst (λ (y : board.Shown). ClosesOn status s t (aim_of c.stands.text y)) one.board (record {
       turn = c.turn;
