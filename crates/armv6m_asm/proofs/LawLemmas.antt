@@ -95,7 +95,7 @@ mnemonic_begins m = refl
 directive : List ℕ → ℕ
 directive bytes = if get_or bytes 0 0 == 46 then (if get_or bytes 1 0 == 119 then 1 else 2) else 3
 
--- which directive the first token is, or 0 if there is no token
+-- the sort of the first token: as `directive` for a word, 4 for a mark, and 0 if there is no token
 sort : List Token → ℕ
 sort [] = 0
 sort (word bytes ∷ rest) = directive bytes
