@@ -1,5 +1,5 @@
-//! The description of a target board: where its RAM, its flash and its flash controller are, how long
-//! the controller takes, how fast the core runs, and the weights of erasing and programming.
+//! The description of a target board: where its RAM, its flash and its flash controller are, and the times of
+//! the controller. It also gives the speed of the core and the weights of erasing and programming.
 //!
 //! The text is TOML. `read_board` reads it, and the ranges and limits of the format hold for every `Board`.
 #![tactic(auto)]

@@ -7,13 +7,13 @@ use std::io::ErrorKind;
 use std::time::{Duration, Instant};
 use std::{io, thread};
 
-/// How long a lock that another program holds is asked for again, in milliseconds.
+/// How long a program asks again for a lock that another one holds, in milliseconds.
 const PATIENCE: u64 = 1_000;
 
-/// The time before it is asked for again, in milliseconds.
+/// The time between two tries for a lock, in milliseconds.
 const PAUSE: u64 = 10;
 
-/// How many times the lock is asked for again at most, should the clock stop.
+/// The most tries for a lock, in case the clock stops.
 const MOST_AGAIN: u32 = 100;
 
 /// What a program holds of a file.
@@ -24,14 +24,14 @@ enum Hold {
     Shared,
     // no other program reads or writes it
     Exclusive,
-    // the shared lock was given up for an exclusive one that another program kept from it
+    // the shared lock was given up for an exclusive one, which another program's lock prevented
     Lost,
 }
 
 /// The advisory lock on an open file. It is kept until the file is closed. On a file system without locks the program runs without one.
 ///
-/// If another program holds the lock, it is asked for again for up to a second, the first time only: a program that only reads the
-/// file is done by then. While a shared lock is held, an exclusive one is asked for only once. If that is refused, the system has
+/// If another program holds the lock, it is asked for again for up to a second. That is done only the first time: a program that only reads
+/// the file is done by then. While a shared lock is held, an exclusive one is asked for only once. If that is refused, the system has
 /// released the shared one, and another program may have changed the file.
 #[derive(Drop)]
 pub struct FileLock {

@@ -103,9 +103,9 @@ impl Shared {
     }
 }
 
-/// A line on standard error that counts the cells erased and programmed so far, and how many there are if a plan has gone by; or the lists
-/// of calls that were tried. It is rewritten at most ten times a second. There is one only if standard error is a terminal, so that
-/// nothing else ever gets it. All holders share it.
+/// A line on standard error that counts the cells erased and programmed so far, and how many there are if a plan has gone by. For trials
+/// it counts the lists of calls. It is rewritten at most ten times a second. There is one only if standard error is a terminal, so
+/// that nothing else ever gets it. All holders share it.
 #[derive(Drop)]
 pub struct ProgressLine {
     shared: Option<Rc<Shared>>,

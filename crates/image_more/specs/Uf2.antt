@@ -1,5 +1,5 @@
--- The image of a UF2 file, by Microsoft's specification of the USB Flashing Format (UF2), "File format": a file is a list of blocks
--- of 512 bytes, each of 32-bit little-endian numbers around 476 bytes of data.
+-- The image of a UF2 file, by Microsoft's specification of the USB Flashing Format (UF2), "File format". A file is a list of blocks
+-- of 512 bytes. Each has 32-bit little-endian numbers around 476 bytes of data.
 use Rattle.std.specs.Prelude.{◌≡◌, ◌≢◌, ◌≤◌, ◌<◌, ◌+◌, ◌*◌, ◌/◌, ◌%◌, ◌==◌, ◌&&◌, ℕ, zero, suc, Bool, true, false, List, [], ◌∷◌, ◌++◌, length, slice_range}
 use Rattle.std.specs.Prelude.{if◌then◌else◌}
 use Rattle.octets.specs.Field.{field32}
@@ -28,7 +28,7 @@ payload_size block = field32 block 16
 abbrev pub payload : List ℕ → Run
 payload block = record { at = field32 block 12; bytes = slice_range block 32 (32 + payload_size block) }
 
--- what a block adds to the image
+-- the runs that a block adds to the image
 abbrev pub runs_of : List ℕ → List Run
 runs_of block = if is_skipped block then [] else payload block ∷ []
 

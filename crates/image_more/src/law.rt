@@ -1,4 +1,4 @@
-//! Laws of files and texts, which no body is needed for.
+//! Laws of files and texts. They need no body.
 ghost use Rattle.std.specs.Prelude.{◌≡◌, ◌≢◌, ℕ, List, Option, None, Some};
 ghost use Rattle.octets.specs.Lines.{lines_of};
 ghost use Rattle.byte_map.specs.Image.{Run, byte_at};
@@ -21,7 +21,7 @@ pub fn texts_are_read_back()
     ensures srec_alone { (map other : List Run) → IsByteMap map → IsImageOfText srec (lines_of (srec_text map)) other → other ≡ map }
 {}
 
-/// A file that is the text of a map stands for that map and for no other, if no address is given for raw bytes: its first byte
+/// A file that is the text of a map stands for that map and for no other, if no address is given for raw bytes. Its first byte
 /// shows its form.
 pub fn files_of_texts_are_their_maps()
     ensures hex { (map : List Run) → IsByteMap map → IsAnyImage None (hex_text map) map }

@@ -14,9 +14,10 @@ use outside_io::{Gathered, OutputFault, Sink};
 /// How many addresses a row has at most.
 const ROW: u32 = 16;
 
-/// Puts an image as Intel HEX: a data record for each of its runs, cut at every address that is a multiple of 16, in rising order;
-/// before it a record of type 04 where its upper half is the first or another than before; and the end record. Lines end with a line
-/// feed. A fault may leave a beginning of it. It goes out in pieces of up to 4,096 bytes, and takes no memory.
+/// Puts an image as Intel HEX. Each run is cut at every address that is a multiple of 16, and has its data records in rising order.
+/// A record of type 04 comes before a data record if the upper half of its address is the first or has changed. The end record is
+/// last. Lines end with a line feed. A fault may leave a beginning of the text. It goes out in pieces of up to 4,096 bytes, and takes
+/// no memory.
 pub fn write_hex<O: Sink>(map: &ByteMap, out: &mut O) -> Result<(), OutputFault>
     ensures { Puts O.tells (O.state out.old) (O.state out.new) (hex_text map.now) result }
 {
@@ -25,9 +26,9 @@ pub fn write_hex<O: Sink>(map: &ByteMap, out: &mut O) -> Result<(), OutputFault>
     text.put(out)
 }
 
-/// Puts an image as S-records: an empty header, an S3 record for each of its runs, cut at every address that is a multiple of 16, in
-/// rising order, and the end record. Lines end with a line feed. A fault may leave a beginning of it. It goes out in pieces of up to
-/// 4,096 bytes, and takes no memory.
+/// Puts an image as S-records: an empty header, the S3 records, and the end record. Each run is cut at every address that is a multiple
+/// of 16, and has its S3 records in rising order. Lines end with a line feed. A fault may leave a beginning of the text. It goes out in
+/// pieces of up to 4,096 bytes, and takes no memory.
 pub fn write_srec<O: Sink>(map: &ByteMap, out: &mut O) -> Result<(), OutputFault>
     ensures { Puts O.tells (O.state out.old) (O.state out.new) (srec_text map.now) result }
 {
@@ -116,7 +117,7 @@ fn gather_row<O: Sink>(
     }
 }
 
-/// Gathers the record of type 04 with an upper half where it is the first, or another than the one before.
+/// Gathers the record of type 04 with an upper half, if it is the first or differs from the one before.
 fn gather_upper<O: Sink>(
     out: &mut O,
     text: &mut Gathered,

@@ -10,10 +10,10 @@ use std::alloc::Global;
 /// How many bytes a block has.
 const BLOCK: usize = 512;
 
-/// Reads a UF2 file: the image is the union over its blocks for main flash, each its payload from its address on. The first check
-/// that fails is answered: the file's length, and then block by block its magic numbers, the size of its payload, whether that goes
-/// past 0xFFFF_FFFF, and whether a block before has another byte at one of its addresses. Of a block that isn't for main flash, by
-/// bit 0 of its flags, only the first two are checked. (Microsoft, "USB Flashing Format (UF2)".)
+/// Reads a UF2 file. The image is the union of its blocks for main flash, each with its payload at its address. The first check that fails
+/// is answered. First comes the file's length. Then, block by block, come the magic numbers, the size of the payload, whether it goes
+/// past 0xFFFF_FFFF, and whether an earlier block has another byte at one of its addresses. If bit 0 of its flags says that a block
+/// isn't for main flash, only the magic numbers and the size are checked. (Microsoft, "USB Flashing Format (UF2)".)
 #[tactic(auto, using(crate::proofs::Uf2Lemmas::no_block, crate::proofs::Uf2Lemmas::block_refused))]
 pub fn read_uf2(alloc: Global, bytes: &[u8]) -> Result<ByteMap, Uf2Fault>
     ensures ok { IfOk result (IsUf2Image bytes.now) }

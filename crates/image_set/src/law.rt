@@ -1,4 +1,4 @@
-//! Laws of image files, which no body is needed for.
+//! Laws of image files. They need no body.
 ghost use Rattle.std.specs.Prelude.{◌≡◌, ◌≢◌, ℕ, List, Option};
 ghost use Rattle.byte_map.specs.Image.{Run};
 ghost use Rattle.image_set.specs.declared.fault.ImageFault.{ImageFault};

@@ -37,8 +37,8 @@ hash_line what hash = (what ++ codes "sha256 ") ++ hash_text hash ++ codes "\n"
 abbrev pub devices_of : List flm.Shown → List Device
 devices_of algorithms = map (λ (algorithm : flm.Shown). algorithm.device) algorithms
 
--- The whole listing: the devices and the image as `status` prints them, the format, the board, each algorithm as `inspect` prints it, the
--- first and last address of the image, and two hashes.
+-- The whole listing: the devices and the image as `status` prints them, the format, the board, and each algorithm as `inspect` prints it.
+-- Then come the first and last address of the image, and two hashes.
 unfoldable pub listing_of : Format → List Run → List ℕ → List ℕ → board.Shown → List flm.Shown → List ℕ
 listing_of format image of_image of_snapshot b algorithms =
     job_text (devices_of algorithms) image

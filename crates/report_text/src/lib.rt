@@ -1,5 +1,5 @@
-//! The texts that the flash programmer prints: a plan, the line of a region, a job, an inspection, an end, a refusal and the line of one of many
-//! targets, each put on a sink. No call takes memory.
+//! The texts that the flash programmer prints, each put on a sink: a plan, the line of a region, a job, an inspection, an end, a refusal
+//! and the line of one of many targets. No call takes memory.
 #![tactic(auto)]
 
 mod board_reason;

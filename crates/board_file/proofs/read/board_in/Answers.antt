@@ -22,7 +22,7 @@ use Rattle.board_file.specs.declared.written.WrittenQuiet.{WrittenQuiet}
 use Rattle.std.proofs.lemmas.Grind.{common_steps}
 use Rattle.board_file.proofs.read.board_in.Goals as goal
 
--- what the calls said, of the kind that the text writes
+-- what the calls answered, with the kind of controller that the text writes
 rows_said : (kind named : Result ControllerKind BoardFault) (suits : ControllerKind) (list same : List Value) (said : Result (List Region) BoardFault)
     → named ≡ kind → suits ≡ suiting named → same ≡ list → Text.regions suits (items_view same) ≡ said → Text.regions (suiting kind) (items_view list) ≡ said
 rows_said kind named suits list same said a b d e = rw (← a, ← b, ← d) e

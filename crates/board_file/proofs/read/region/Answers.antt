@@ -9,7 +9,7 @@ use Rattle.board_file.specs.Text.{region, needed, valid}
 use Rattle.std.proofs.lemmas.Grind.{common_steps}
 use Rattle.board_file.proofs.read.region.Goals as goal
 
--- a value that is there, as its view says
+-- the view of a value that is there
 some_said : {A B : Type 0} (view : A → B) (o : Option A) (x : A) (said : Option B) → option_map view o ≡ said → o ≡ Some x → said ≡ Some (view x)
 some_said view o x said a b = let there : option_map view o ≡ Some (view x) = rw b refl in sym a ∙ there
 
