@@ -1,4 +1,4 @@
--- `assemble`: its clauses `err` and `ok`, and what `find_labels`, `check_destinations` and `write_code` ask for.
+-- `assemble`: its clauses `err` and `ok`, and what `find_labels`, `check_destinations` and `write_code` require.
 use Rattle.std.proofs.lemmas.Grind.{common_steps}
 use Rattle.std.proofs.Common.{List, subst, sym, arith}
 use Rattle.std.specs.Prelude.{All, Contains}

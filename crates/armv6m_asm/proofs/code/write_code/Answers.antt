@@ -1,4 +1,4 @@
--- `write_code`: its clauses `err` and `ok`, what `add_operation` asks for, that no number overflows, and that its loop keeps its invariant.
+-- `write_code`: its clauses `err` and `ok`, what `add_operation` requires, that no number overflows, and that its loop keeps its invariant.
 use Rattle.std.proofs.Common.{◌+◌, ℕ, subst, sym, arith}
 use Rattle.std.proofs.lemmas.Grind.{common_steps}
 use Rattle.std.specs.Prelude.{Contains}

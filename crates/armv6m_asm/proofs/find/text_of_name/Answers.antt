@@ -1,4 +1,4 @@
--- `text_of_name`: what `unwrap` asks for.
+-- `text_of_name`: what `unwrap` requires.
 use Rattle.std.proofs.Common.{refl}
 use Rattle.std.specs.Prelude.{Result, Ok, Err, IsOk, MatchResult}
 use Rattle.std.proofs.lemmas.Str.{IsUtf8-from_ascii}

@@ -1,4 +1,4 @@
--- `disassemble`: what `write_form` asks for.
+-- `disassemble`: what `write_form` requires.
 use Rattle.std.proofs.Common.{◌<◌, arith}
 use Rattle.armv6m_forms.specs.Room.{low_list}
 use Rattle.armv6m_forms.proofs.RoomLemmas.{form_has_room}

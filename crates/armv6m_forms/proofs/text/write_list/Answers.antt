@@ -1,4 +1,4 @@
--- `write_list`: that it keeps its contract, that its loop keeps its invariant, and what `write_item` asks for.
+-- `write_list`: that it keeps its contract, that its loop keeps its invariant, and what `write_item` requires.
 use Rattle.std.proofs.Common.{◌≡◌, rules, true, false, eq-eqb, ne_eqb, ◌∙◌, sym, arith, length-append, append_assoc}
 use Rattle.armv6m_alu.specs.Bits.{is_bit_set}
 use Rattle.armv6m_forms.specs.Text.{list_text}

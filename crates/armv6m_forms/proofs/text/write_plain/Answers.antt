@@ -1,4 +1,4 @@
--- `write_plain`: its contract, `Plain`, and what `write_operands` asks for.
+-- `write_plain`: its contract, `Plain`, and what `write_operands` requires.
 use Rattle.std.proofs.Common.{refl, arith}
 use Rattle.std.proofs.lemmas.Grind.{common_steps}
 use Rattle.armv6m_forms.specs.Text.{form_text}

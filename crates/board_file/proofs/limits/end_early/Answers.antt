@@ -1,4 +1,4 @@
--- `end_early`: that it keeps its contract, and that its loop keeps what it has to.
+-- `end_early`: that it keeps its contract, and that its loop keeps its invariant.
 use Rattle.std.proofs.Common.{arith}
 use Rattle.std.proofs.lemmas.Grind.{common_steps}
 use Rattle.board_file.proofs.limits.end_early.Goals as goal

@@ -1,4 +1,4 @@
--- `limited`: that it keeps its contract, and what `quiet_ranges` asks for.
+-- `limited`: that it keeps its contract, and what `quiet_ranges` requires.
 use Rattle.board_file.specs.Text.{limited}
 use Rattle.std.proofs.lemmas.Grind.{common_steps}
 use Rattle.std.proofs.Common.{◌≡◌, ◌≤◌, ◌+◌, false, None, rules, arith}

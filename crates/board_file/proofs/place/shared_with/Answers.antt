@@ -1,4 +1,4 @@
--- `shared_with`: that it keeps its contract, and that its loop keeps what it has to.
+-- `shared_with`: that it keeps its contract, and that its loop keeps its invariant.
 use Rattle.std.proofs.Common.{arith}
 use Rattle.std.proofs.lemmas.Grind.{common_steps}
 use Rattle.board_file.proofs.place.shared_with.Goals as goal

@@ -1,4 +1,4 @@
--- `board_in`: that it keeps its contract, that its result is as its type asks, what `limited` asks for, and that no number overflows.
+-- `board_in`: that it keeps its contract, that its result meets the clauses of its type, what `limited` requires, and that no number overflows.
 use Rattle.std.proofs.Common.{◌≡◌, refl, inr, ◌∙◌, ℕ, List, Result, Ok, IsTrue, map, ap, sym, subst, arith}
 use Rattle.std.specs.List.{list_all}
 use Rattle.board_file.specs.declared.fault.BoardFault.{BoardFault}

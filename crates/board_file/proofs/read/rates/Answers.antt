@@ -1,4 +1,4 @@
--- `rates`: that it keeps its contract, and that its result is as its type asks.
+-- `rates`: that it keeps its contract, and that its result meets the clauses of its type.
 use Rattle.board_file.proofs.Reading.{gives_fault, fails_within, then_ok, then_err}
 use Rattle.std.proofs.lemmas.Result.{err_from_is_err_and}
 use Rattle.std.proofs.Common.{refl}

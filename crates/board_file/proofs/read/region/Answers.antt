@@ -1,4 +1,4 @@
--- `region`: that it keeps its contract, that its result is as its type asks, and that no number overflows.
+-- `region`: that it keeps its contract, that its result meets the clauses of its type, and that no number overflows.
 use Rattle.std.proofs.Common.{◌≡◌, ◌∙◌, sym, Option, Some, option_map, Ok, refl, arith}
 use Rattle.std.proofs.lemmas.Result.{err_from_is_err_and}
 use Rattle.toml.specs.View.{view}

@@ -1,4 +1,4 @@
--- `number`: that it keeps its contract, and what `number_in` asks for.
+-- `number`: that it keeps its contract, and what `number_in` requires.
 use Rattle.std.proofs.Common.{arith}
 use Rattle.std.proofs.lemmas.Grind.{common_steps}
 use Rattle.board_file.specs.Text.{number}

@@ -1,4 +1,4 @@
--- `extend_first`: its clause `ok`, and what `append` asks for.
+-- `extend_first`: its clause `ok`, and what `append` requires.
 use Rattle.std.proofs.Common.{ℕ, ◌+◌, ◌-◌, ◌∙◌, ◌++◌, List, take, drop, refl, ap, arith, length}
 use Rattle.std.proofs.lemmas.Grind.{common_steps}
 use Rattle.byte_map.specs.Image.{Run, run_at, end_of}

@@ -1,4 +1,4 @@
--- `join`: its clause `ok`, and what `extend_first` and `extend_last` ask for.
+-- `join`: its clause `ok`, and what `extend_first` and `extend_last` require.
 use Rattle.std.proofs.Common.{◌≡◌, ◌-◌, ◌^◌, ℕ, ap, arith}
 use Rattle.std.proofs.lemmas.Grind.{common_steps}
 use Rattle.byte_map.specs.Image.{Run, run_at, end_of}

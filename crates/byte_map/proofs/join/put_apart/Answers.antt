@@ -1,4 +1,4 @@
--- `put_apart`: its clause `ok`, and what `insert` asks for.
+-- `put_apart`: its clause `ok`, and what `insert` requires.
 use Rattle.std.proofs.Common.{◌^◌, arith, rules}
 use Rattle.byte_map.proofs.Runs.{few_runs}
 use Rattle.byte_map.proofs.Grown.{lays_apart}

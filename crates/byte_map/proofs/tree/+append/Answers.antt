@@ -1,4 +1,4 @@
--- `+append`: what `append` asks for.
+-- `+append`: what `append` requires.
 use Rattle.std.proofs.Common.{arith}
 use Rattle.std.proofs.lemmas.Grind.{common_steps}
 use Rattle.byte_map.proofs.Sides.{resets}

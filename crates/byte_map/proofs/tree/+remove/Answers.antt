@@ -1,4 +1,4 @@
--- `+remove`: that it keeps its contract, and what `remove` asks for.
+-- `+remove`: that it keeps its contract, and what `remove` requires.
 use Rattle.std.proofs.Common.{arith}
 use Rattle.std.proofs.lemmas.Grind.{common_steps}
 use Rattle.byte_map.proofs.Sides.{sides}

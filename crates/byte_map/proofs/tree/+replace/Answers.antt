@@ -1,4 +1,4 @@
--- `+replace`: that it keeps its contract, and what `replace` asks for.
+-- `+replace`: that it keeps its contract, and what `replace` requires.
 use Rattle.std.proofs.Common.{arith}
 use Rattle.std.proofs.lemmas.Grind.{common_steps}
 use Rattle.byte_map.proofs.Sides.{resets}

@@ -1,4 +1,4 @@
--- `take_each`: its clauses `takes` and `short`, that its loop keeps what it has to, and what `take_one` asks for.
+-- `take_each`: its clauses `takes` and `short`, that its loop keeps its invariant, and what `take_one` requires.
 use Rattle.std.proofs.Common.{◌≡◌, ◌≤◌, ◌+◌, ◌∙◌, sym, ap, subst, arith, ℕ, Bool, All, List, ◌∷◌, [], ◌++◌, length, cond}
 use Rattle.std.proofs.lemmas.Grind.{common_steps}
 use Rattle.std.proofs.lemmas.Result.{err_from_is_err_and}

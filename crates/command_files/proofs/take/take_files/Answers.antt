@@ -1,4 +1,4 @@
--- `take_files`: its clauses `takes` and `short`, and what `take_one`, `take_optional` and `take_each` ask for.
+-- `take_files`: its clauses `takes` and `short`, and what `take_one`, `take_optional` and `take_each` require.
 use Rattle.std.proofs.Common.{◌∙◌, arith, ◌∷◌, [], ◌++◌, option_to_list}
 use Rattle.std.proofs.lemmas.Result.{err_from_is_err_and}
 use Rattle.std.proofs.lemmas.List.Elements.{All-head, All-tail, All-weaker}

@@ -1,4 +1,4 @@
--- `read_target_files`: its clauses `reads`, `short_second`, `short_board` and `short_flm`, and what `read_files` and `unwrap` ask for.
+-- `read_target_files`: its clauses `reads`, `short_second`, `short_board` and `short_flm`, and what `read_files` and `unwrap` require.
 use Rattle.std.proofs.Common.{◌≡◌, ◌-◌, ap, inl, inr, refl, arith, ℕ, length}
 use Rattle.std.proofs.lemmas.Result.{err_from_is_err_and}
 use Rattle.board_file.specs.Shown as board

@@ -1,4 +1,4 @@
--- `read_images`: that its loop keeps what it has to.
+-- `read_images`: that its loop keeps its invariant.
 use Rattle.std.proofs.Common.{◌≡◌, ◌∙◌, [], arith, sym, subst, rules, ℕ, List}
 use Rattle.std.proofs.lemmas.Option.{get_or_from_slice_get}
 use Rattle.std.proofs.lemmas.List.{get_or_default}

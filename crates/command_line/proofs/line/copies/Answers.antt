@@ -1,4 +1,4 @@
--- `copies`: that it keeps its contract, and that its loop keeps what it has to.
+-- `copies`: that it keeps its contract, and that its loop keeps its invariant.
 use Rattle.std.proofs.Common.{arith}
 use Rattle.std.proofs.lemmas.Grind.{common_steps}
 use Rattle.command_line.proofs.line.copies.Goals as goal

@@ -1,4 +1,4 @@
--- `know_texts`: that its loop keeps what it has to.
+-- `know_texts`: that its loop keeps its invariant.
 use Rattle.command_line.proofs.Shorts.{AreTexts-more}
 use Rattle.command_line.proofs.line.know_texts.Goals as goal
 

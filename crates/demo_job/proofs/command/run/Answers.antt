@@ -1,4 +1,4 @@
--- `run`: its contract, `IsShown`, and what `new` and `demo_run` ask for.
+-- `run`: its contract, `IsShown`, and what `new` and `demo_run` require.
 use Rattle.std.proofs.Common.{◌≡◌, ◌∙◌, refl, ap, arith, ℕ, List, [], length}
 use Rattle.bench_model.specs.Shown.{made_bench}
 use Rattle.demo_job.specs.Demo.{Shows}

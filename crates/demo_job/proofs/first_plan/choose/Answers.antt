@@ -1,4 +1,4 @@
--- `choose`: that it keeps its contract, and what `plan_into` asks for.
+-- `choose`: that it keeps its contract, and what `plan_into` requires.
 use Rattle.std.proofs.Common.{◌≡◌, ◌∙◌, sym, ap, ℕ, List, length}
 use Rattle.page_geometry.specs.Geometry.{Geometry}
 use Rattle.demo_job.specs.Made.{cells_of}

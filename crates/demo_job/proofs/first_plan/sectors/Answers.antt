@@ -1,4 +1,4 @@
--- `sectors`: that its loop keeps what it has to.
+-- `sectors`: that its loop keeps its invariant.
 use Rattle.std.proofs.Common.{ℕ, false, get_or, arith, sym, ap, ◌∙◌, cond, Bool, refl}
 use Rattle.erase_planner.proofs.FillLemmas.{count_more, count_start}
 use Rattle.demo_job.proofs.first_plan.sectors.Goals as goal

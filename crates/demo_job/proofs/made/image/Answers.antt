@@ -1,4 +1,4 @@
--- `image`: what `one_run` asks for.
+-- `image`: what `one_run` requires.
 use Rattle.std.proofs.Common.{◌≡◌, arith, length}
 use Rattle.demo_job.proofs.GeneratorLemmas.{long_draws}
 use Rattle.demo_job.proofs.made.image.Goals as goal

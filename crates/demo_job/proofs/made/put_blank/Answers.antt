@@ -1,4 +1,4 @@
--- `put_blank`: that its loop keeps what it has to.
+-- `put_blank`: that its loop keeps its invariant.
 use Rattle.std.proofs.Common.{arith}
 use Rattle.std.proofs.lemmas.Grind.{common_steps}
 use Rattle.demo_job.proofs.made.put_blank.Goals as goal

@@ -1,4 +1,4 @@
--- `put_sectors`: its clause `state`, and that its loop keeps what it has to.
+-- `put_sectors`: its clause `state`, and that its loop keeps its invariant.
 use Rattle.std.proofs.Common.{◌≡◌, ℕ, sym, subst, arith}
 use Rattle.demo_job.specs.Made.{after_sectors}
 use Rattle.demo_job.proofs.MadeLemmas.{begin_sectors, more_sectors, more_after, not_after_sectors}

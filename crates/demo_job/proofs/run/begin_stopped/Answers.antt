@@ -1,4 +1,4 @@
--- `begin_stopped`: its contract, `BeginsOver`, and what `begin_job` asks for.
+-- `begin_stopped`: its contract, `BeginsOver`, and what `begin_job` requires.
 use Rattle.std.proofs.Common.{◌∙◌, sym, subst, List, [], ◌∷◌}
 use Rattle.bench_model.specs.Stopped.{stopped}
 use Rattle.byte_map.specs.Image.{Run}

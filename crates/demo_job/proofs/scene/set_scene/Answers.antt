@@ -1,4 +1,4 @@
--- `set_scene`: its contract, `IsScene`, and what `goal` asks for.
+-- `set_scene`: its contract, `IsScene`, and what `goal` requires.
 use Rattle.std.proofs.Common.{◌≡◌, ◌∙◌, refl, ap, arith, ℕ, List, length}
 use Rattle.byte_map.specs.Image.{Run, over}
 use Rattle.demo_job.specs.Made.{base, image_of}

@@ -1,4 +1,4 @@
--- `survey`: its clauses `looks` and `surveyed`, and what `read_cells` asks for.
+-- `survey`: its clauses `looks` and `surveyed`, and what `read_cells` requires.
 use Rattle.std.proofs.Common.{◌∙◌, sym, rules}
 use Rattle.std.proofs.lemmas.Result.{err_from_is_err_and}
 use Rattle.device_dump.proofs.LooksLemmas.{looks_dropped, looks_by, only_reads, all_read}

@@ -1,4 +1,4 @@
--- `map_of_cells`: its contract, that its loop keeps what it has to, and that each piece lies among the cells.
+-- `map_of_cells`: its contract, that its loop keeps its invariant, and that each piece lies among the cells.
 use Rattle.std.proofs.lemmas.Grind.{common_steps}
 use Rattle.std.proofs.Common.{refl, arith}
 use Rattle.device_dump.proofs.CellLemmas.{one_mapped}

@@ -1,4 +1,4 @@
--- `dump`: its contract, `DumpEnds`, and what `dump_cells` asks for.
+-- `dump`: its contract, `DumpEnds`, and what `dump_cells` requires.
 use Rattle.std.proofs.Common.{◌≡◌, ◌∙◌, sym, subst, arith, ℕ, List}
 use Rattle.std.proofs.lemmas.Result.{err_from_is_err_and}
 use Rattle.board_file.specs.Limits.{size_of}

@@ -1,4 +1,4 @@
--- `dump_cells`: its contract, `DumpsCells`, and what `put_cells` asks for.
+-- `dump_cells`: its contract, `DumpsCells`, and what `put_cells` requires.
 use Rattle.std.proofs.Common.{◌≡◌, ◌∙◌, sym, subst, arith, List, ℕ, IsTrue}
 use Rattle.std.proofs.lemmas.Grind.{common_steps}
 use Rattle.std.proofs.lemmas.Result.{err_from_is_err_and}

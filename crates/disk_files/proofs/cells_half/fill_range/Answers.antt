@@ -1,4 +1,4 @@
--- `fill_range`: its clause `fails`, and that its loop keeps what it has to.
+-- `fill_range`: its clause `fails`, and that its loop keeps its invariant.
 use Rattle.std.proofs.Common.{arith, length, refl, sym, ◌≤◌, ◌∙◌, ◌+◌, ap, ℕ}
 use Rattle.std.proofs.lemmas.Grind.{common_steps}
 use Rattle.std.proofs.lemmas.List.{take-replicate, length-replicate}

@@ -1,4 +1,4 @@
--- `read_all`: what holds at each turn of its loop, and what falls with it.
+-- `read_all`: what holds at each turn of its loop, and what decreases at each turn.
 use Rattle.std.proofs.Common.{◌≡◌, ◌≤◌, ◌<◌, ◌^◌, ◌+◌, ◌-◌, length, IsTrue, true}
 use Rattle.disk_files.proofs.ReadLemmas.{IsReadTo}
 use Rattle.disk_files.proofs.FailLemmas.{GoesSo}

@@ -1,4 +1,4 @@
--- `write_all`: what holds at each turn of its loop, and what falls with it.
+-- `write_all`: what holds at each turn of its loop, and what decreases at each turn.
 use Rattle.std.proofs.Common.{◌≡◌, ◌≤◌, ◌<◌, ◌^◌, ◌+◌, ◌-◌, length, IsTrue, true, false}
 use Rattle.disk_files.proofs.WriteLemmas.{IsWrittenTo}
 use Rattle.disk_files.proofs.FailLemmas.{GoesSo}

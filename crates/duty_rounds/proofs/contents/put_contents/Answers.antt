@@ -1,4 +1,4 @@
--- `put_contents`: its contract, and what `empty_sectors` and `empty_pages` ask for.
+-- `put_contents`: its contract, and what `empty_sectors` and `empty_pages` require.
 use Rattle.std.proofs.Common.{arith}
 use Rattle.std.proofs.lemmas.Grind.{common_steps}
 use Rattle.duty_rounds.proofs.contents.put_contents.Goals as goal

@@ -1,4 +1,4 @@
--- `try_number`: its contract, and what `try_plan` asks for.
+-- `try_number`: its contract, and what `try_plan` requires.
 use Rattle.std.proofs.Common.{arith}
 use Rattle.std.proofs.lemmas.Grind.{common_steps}
 use Rattle.duty_rounds.proofs.rounds.try_number.Goals as goal

@@ -1,4 +1,4 @@
--- `calls_of`: that it keeps its contract, and what `CallsIn::new` asks for.
+-- `calls_of`: that it keeps its contract, and what `CallsIn::new` requires.
 use Rattle.std.proofs.Common.{ap, ◌∙◌}
 use Rattle.flm_descriptor.specs.Shown.{Shown}
 use Rattle.target_core.specs.declared.machine.Machine.{Machine}

@@ -1,4 +1,4 @@
--- `check_names`: its contract, `Finds`, and that its loop keeps what it has to.
+-- `check_names`: its contract, `Finds`, and that its loop keeps its invariant.
 use Rattle.std.proofs.Common.{◌≡◌, ◌<◌, arith}
 use Rattle.std.specs.Prelude.{is_none}
 use Rattle.std.proofs.lemmas.Result.{err_from_is_err_and}

@@ -1,4 +1,4 @@
--- `find_from`: the value that it answers, and that its loop keeps what it has to.
+-- `find_from`: the value that it answers, and that its loop keeps its invariant.
 use Rattle.std.proofs.Common.{◌<◌, ◌∙◌, sym, arith}
 use Rattle.elf32.specs.Format.{e_shnum}
 use Rattle.elf32.specs.Tables.{is_section}

@@ -1,4 +1,4 @@
--- `find_section`: the value that it answers, and what `find_from` asks for.
+-- `find_section`: the value that it answers, and what `find_from` requires.
 use Rattle.std.proofs.Common.{◌≡◌, ◌≤◌, ◌∙◌, sym, arith, Some}
 use Rattle.elf32.specs.Search.{first_below}
 use Rattle.elf32.specs.Format.{e_shnum}

@@ -1,4 +1,4 @@
--- `keep_names`: that its loop keeps what it has to.
+-- `keep_names`: that its loop keeps its invariant.
 use Rattle.std.proofs.Common.{sym}
 use Rattle.elf32.specs.Tables.{is_section}
 use Rattle.elf32.proofs.NameLemmas.{kept-more, kept-other}

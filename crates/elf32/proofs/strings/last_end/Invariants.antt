@@ -1,4 +1,4 @@
--- `last_end`: what holds at each turn of its loop, and what falls with it.
+-- `last_end`: what holds at each turn of its loop, and what decreases at each turn.
 use Rattle.std.proofs.Common.{◌≢◌, ℕ, ◌<◌, ◌≤◌, length, get_or}
 use Rattle.elf32.proofs.strings.last_end.Given as goal
 

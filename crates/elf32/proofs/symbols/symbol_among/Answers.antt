@@ -1,4 +1,4 @@
--- `symbol_among`: the value that it answers, and that its loop keeps what it has to.
+-- `symbol_among`: the value that it answers, and that its loop keeps its invariant.
 use Rattle.std.proofs.Common.{◌≡◌, ◌/◌, ◌∙◌, sym, arith}
 use Rattle.std.proofs.lemmas.Result.{err_from_is_err_and}
 use Rattle.elf32.proofs.SearchLemmas.{first_below-zero}

@@ -1,4 +1,4 @@
--- `symbol_table`: the value that it answers, and that its loop keeps what it has to.
+-- `symbol_table`: the value that it answers, and that its loop keeps its invariant.
 use Rattle.std.proofs.Common.{◌≡◌, ◌<◌, ◌==◌, sym, arith}
 use Rattle.std.proofs.lemmas.Bool.{eq-eqb, ne_eqb}
 use Rattle.elf32.specs.Format.{section_at, e_shnum}

@@ -1,4 +1,4 @@
--- `choose`: that it keeps its contract, and what `fill_pages` and `fill_none` ask for.
+-- `choose`: that it keeps its contract, and what `fill_pages` and `fill_none` require.
 use Rattle.std.proofs.lemmas.Grind.{common_steps}
 use Rattle.std.proofs.Common.{◌&&◌, nat_lt, ◌≡◌, ℕ, ◌+◌, ◌*◌, length, ◌∙◌, ap, sym, List, Bool, false, arith}
 use Rattle.page_geometry.specs.Cells.{count_below}

@@ -1,4 +1,4 @@
--- `count_wanted`: that its loop keeps what it has to.
+-- `count_wanted`: that its loop keeps its invariant.
 use Rattle.std.proofs.Common.{ℕ, arith, ap, cond, Bool, refl}
 use Rattle.erase_planner.specs.Marks.{wanted_by}
 use Rattle.erase_planner.proofs.FillLemmas.{count_more, count_start}

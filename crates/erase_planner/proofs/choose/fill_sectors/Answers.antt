@@ -1,4 +1,4 @@
--- `fill_sectors`: that its loop keeps what it has to, and what `push_within` asks for.
+-- `fill_sectors`: that its loop keeps its invariant, and what `push_within` requires.
 use Rattle.std.proofs.Common.{ℕ, length, arith, ◌∙◌, ap, sym, cond, [], ◌∷◌, ◌++◌, List, Bool}
 use Rattle.erase_planner.specs.Marks.{erases_by}
 use Rattle.erase_planner.proofs.FillLemmas.{tests_long, tests_more, count_more, count_start}

@@ -1,4 +1,4 @@
--- `fill_wanted`: that its loop keeps what it has to, and what `push_within` asks for.
+-- `fill_wanted`: that its loop keeps its invariant, and what `push_within` requires.
 use Rattle.std.proofs.Common.{length, arith, ◌∙◌, ap, sym, [], ◌∷◌, ◌++◌, List, Bool, refl}
 use Rattle.erase_planner.specs.Marks.{wanted_by}
 use Rattle.erase_planner.proofs.FillLemmas.{tests_long, tests_more}

@@ -1,4 +1,4 @@
--- `must_erase`: the value that it answers, and that its loop keeps what it has to.
+-- `must_erase`: the value that it answers, and that its loop keeps its invariant.
 use Rattle.std.proofs.Common.{◌≡◌, ℕ, ◌∙◌, sym, ap, arith, inl, inr}
 use Rattle.std.proofs.lemmas.Bool.{cases_lt}
 use Rattle.erase_planner.specs.Marks.{mark_at, needs_erasure}

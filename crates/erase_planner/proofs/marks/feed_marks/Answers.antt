@@ -1,4 +1,4 @@
--- `feed_marks`: that it keeps its contract, and that its loop keeps what it has to.
+-- `feed_marks`: that it keeps its contract, and that its loop keeps its invariant.
 use Rattle.std.proofs.Common.{◌≡◌, ℕ, ◌+◌, ◌<◌, List, [], ◌∷◌, ◌++◌, length, take, get_or, arith, sym, subst, ap, ◌∙◌, set, ◌≤◌}
 use Rattle.std.proofs.Math.ListN.{length-set}
 use Rattle.std.proofs.lemmas.List.{take_all, take_more, append_assoc, length-append, length-take-le}

@@ -1,4 +1,4 @@
--- `start_marks`: that its loop keeps what it has to.
+-- `start_marks`: that its loop keeps its invariant.
 use Rattle.std.proofs.Common.{◌≡◌, ℕ, ◌+◌, ◌<◌, length, arith, ◌∙◌, ap, [], ◌∷◌, ◌++◌, List, false}
 use Rattle.erase_planner.specs.Marks.{mark_at}
 use Rattle.std.proofs.Common.{◌-◌, inl, inr}

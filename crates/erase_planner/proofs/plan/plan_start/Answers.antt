@@ -1,4 +1,4 @@
--- `plan_start`: that it keeps its contract, and what `start_marks` asks for.
+-- `plan_start`: that it keeps its contract, and what `start_marks` requires.
 use Rattle.std.proofs.lemmas.Grind.{common_steps}
 use Rattle.std.proofs.Common.{◌∙◌, refl, arith}
 use Rattle.erase_planner.proofs.FeedLemmas.{mark_blank}

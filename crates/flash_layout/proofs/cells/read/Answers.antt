@@ -1,4 +1,4 @@
--- `read`: that it keeps its contract, and what `little_endian` asks for.
+-- `read`: that it keeps its contract, and what `little_endian` requires.
 use Rattle.std.proofs.Common.{arith}
 use Rattle.std.proofs.lemmas.Grind.{common_steps}
 use Rattle.flash_layout.proofs.cells.read.Goals as goal

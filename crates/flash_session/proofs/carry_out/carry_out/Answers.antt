@@ -1,4 +1,4 @@
--- `carry_out`: its clauses `follows`, `sound`, `shown` and `work`, and what `restart` and `go` ask for.
+-- `carry_out`: its clauses `follows`, `sound`, `shown` and `work`, and what `restart` and `go` require.
 use Rattle.std.proofs.Common.{ℕ, refl, sym, subst}
 use Rattle.flash_session.specs.Outcome.{IsSound}
 use Rattle.flash_session.proofs.GoLemmas.{survey_scripted, anew_size, anew_fit, anew_goes, shown_still, survey_still}

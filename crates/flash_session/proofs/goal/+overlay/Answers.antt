@@ -1,4 +1,4 @@
--- `+overlay`: that it keeps its contract, and what `overlay` asks for.
+-- `+overlay`: that it keeps its contract, and what `overlay` requires.
 use Rattle.std.proofs.Common.{◌≡◌, ◌<◌, ◌≤◌, ◌∙◌, ◌-◌, ◌+◌, ◌∷◌, ℕ, List, length, take, drop, sym, ap, arith}
 use Rattle.std.proofs.lemmas.Grind.{common_steps}
 use Rattle.std.proofs.lemmas.List.{length-drop}

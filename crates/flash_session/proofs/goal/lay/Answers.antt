@@ -1,4 +1,4 @@
--- `lay`: that it keeps its contract, and what `overlay` asks for.
+-- `lay`: that it keeps its contract, and what `overlay` requires.
 use Rattle.std.proofs.Common.{◌≤◌, ◌+◌, ◌∙◌, All, List, length, take, drop, sym, ap, subst, arith}
 use Rattle.board_file.specs.declared.region.Region.{Region}
 use Rattle.board_file.specs.Limits.{size_of}

@@ -1,4 +1,4 @@
--- `prepare_from`: what `prepare_with` asks for.
+-- `prepare_from`: what `prepare_with` requires.
 use Rattle.std.proofs.Common.{arith}
 use Rattle.std.proofs.lemmas.Grind.{common_steps}
 use Rattle.flash_session.proofs.player.prepare_from.Goals as goal

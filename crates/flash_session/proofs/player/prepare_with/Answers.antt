@@ -1,4 +1,4 @@
--- `prepare_with`: its clause `long`, and what `prepare` asks for.
+-- `prepare_with`: its clause `long`, and what `prepare` requires.
 use Rattle.std.proofs.Common.{arith}
 use Rattle.std.proofs.lemmas.Grind.{common_steps}
 use Rattle.flash_session.proofs.player.prepare_with.Goals as goal

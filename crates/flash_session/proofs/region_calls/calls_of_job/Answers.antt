@@ -1,4 +1,4 @@
--- `calls_of_job`: what `calls_for` asks for.
+-- `calls_of_job`: what `calls_for` requires.
 use Rattle.std.proofs.Common.{◌∙◌, IsTrue, List, [], ◌∷◌, Option, ap, subst}
 use Rattle.std.specs.Borrow.{Bor}
 use Rattle.board_file.specs.Shown.{shown as board_of}

@@ -1,4 +1,4 @@
--- `read_window`: its clauses `wanted`, `reads`, `spares`, `store` and `device`, and what `want_cells` asks for.
+-- `read_window`: its clauses `wanted`, `reads`, `spares`, `store` and `device`, and what `want_cells` requires.
 use Rattle.std.proofs.Common.{◌+◌, ◌∙◌, ℕ, Bool, List, Result, refl, arith}
 use Rattle.std.proofs.lemmas.Grind.{common_steps}
 use Rattle.std.proofs.lemmas.Bool.{false≢true}

@@ -1,4 +1,4 @@
--- `survey_region`: its clause `part`, and what `survey_windows` asks for.
+-- `survey_region`: its clause `part`, and what `survey_windows` requires.
 use Rattle.std.proofs.Common.{refl, ap, arith}
 use Rattle.page_geometry.specs.Geometry.{Geometry}
 use Rattle.flash_session.proofs.SurveyLemmas.{part_after}

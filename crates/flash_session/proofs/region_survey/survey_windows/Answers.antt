@@ -1,4 +1,4 @@
--- `survey_windows`: its clauses `plan`, `covers`, `spares`, `store` and `device`, that its loop keeps what it has to, and what `survey_window` asks for.
+-- `survey_windows`: its clauses `plan`, `covers`, `spares`, `store` and `device`, that its loop keeps its invariant, and what `survey_window` requires.
 use Rattle.std.proofs.Common.{arith}
 use Rattle.std.proofs.Common.{◌≡◌, ◌≤◌, ◌<◌, ◌+◌, ◌++◌, ◌∙◌, ◌-◌, ◌^◌, ℕ, take, drop, List, [], refl, sym, ap, subst, length, length-append}
 use Rattle.std.proofs.lemmas.Grind.{common_steps}

@@ -1,4 +1,4 @@
--- `want_cells`: its clauses `wanted`, `reads`, `spares` and `cause`, and what `want_into` asks for.
+-- `want_cells`: its clauses `wanted`, `reads`, `spares` and `cause`, and what `want_into` requires.
 use Rattle.std.proofs.Common.{◌∙◌, ◌+◌, ℕ, List, sym, ap, subst, refl, arith}
 use Rattle.std.proofs.lemmas.Bool.{false≢true}
 use Rattle.bench_model.proofs.Moments.{file_stays_here, only_reads_here}

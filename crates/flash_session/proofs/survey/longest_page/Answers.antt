@@ -1,4 +1,4 @@
--- `longest_page`: that it keeps its contract where there are two regions.
+-- `longest_page`: that it keeps its contract if there are two regions.
 use Rattle.std.proofs.Common.{arith}
 use Rattle.std.proofs.lemmas.Grind.{common_steps}
 use Rattle.flash_session.proofs.survey.longest_page.Goals as goal

@@ -1,4 +1,4 @@
--- `player_for`: its clause `work`, and that its result is as its type asks.
+-- `player_for`: its clause `work`, and that its result meets the clauses of its type.
 use Rattle.std.proofs.Common.{ℕ, List, ◌∷◌, length, sym, subst, arith}
 use Rattle.std.proofs.lemmas.Grind.{common_steps}
 use Rattle.flm_descriptor.specs.Shown.{Shown as AlgorithmShown, shown as algorithm_of}

@@ -1,4 +1,4 @@
--- `survey_part`: its clauses `found`, `store` and `device`, and what `survey_region` asks for.
+-- `survey_part`: its clauses `found`, `store` and `device`, and what `survey_region` requires.
 use Rattle.std.proofs.Common.{◌∙◌, sym, arith}
 use Rattle.bench_model.specs.Counted.{is_store_fault, is_device_fault}
 use Rattle.flash_session.specs.declared.windows.Unread.TheVariants as unread

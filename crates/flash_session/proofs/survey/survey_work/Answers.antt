@@ -1,4 +1,4 @@
--- `survey_work`: its clauses `found`, `reads`, `store` and `device`, and what `survey_part` asks for.
+-- `survey_work`: its clauses `found`, `reads`, `store` and `device`, and what `survey_part` requires.
 use Rattle.std.proofs.Common.{◌∙◌, IsTrue, false, List, [], ◌∷◌, Option, refl, sym, ap, subst, arith}
 use Rattle.std.proofs.lemmas.Grind.{common_steps}
 use Rattle.std.specs.Borrow.{Bor}

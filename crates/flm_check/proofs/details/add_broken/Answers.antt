@@ -1,4 +1,4 @@
--- `add_broken`: what `Subject::new` asks for.
+-- `add_broken`: what `Subject::new` requires.
 use Rattle.std.proofs.Common.{◌≡◌, ap, subst, arith, List, map, length, slice_get, Some}
 use Rattle.flm_descriptor.specs.declared.algorithm.Algorithm.{Algorithm}
 use Rattle.flm_descriptor.specs.Shown.{shown as algorithm_of}

@@ -1,4 +1,4 @@
--- `read_board_algorithms`: its contract, `ReadsBoardAlgorithms`, and what `read_algorithms` asks for.
+-- `read_board_algorithms`: its contract, `ReadsBoardAlgorithms`, and what `read_algorithms` requires.
 use Rattle.std.proofs.Common.{◌≡◌, ◌++◌, ap, subst, arith, ℕ, List, length, map, option_to_list}
 use Rattle.std.proofs.lemmas.Result.{err_from_is_err_and}
 use Rattle.board_file.specs.Shown as board

@@ -1,4 +1,4 @@
--- `take_board_algorithms`: its contract, `TakesBoardAlgorithms`, and what `read_board_algorithms` asks for.
+-- `take_board_algorithms`: its contract, `TakesBoardAlgorithms`, and what `read_board_algorithms` requires.
 use Rattle.std.proofs.Common.{inl}
 use Rattle.std.proofs.lemmas.Result.{err_from_is_err_and}
 use Rattle.command_words.specs.Requested.{files_of}

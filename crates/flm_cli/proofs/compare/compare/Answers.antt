@@ -1,4 +1,4 @@
--- `compare`: its contract, `CompareEnds`, and what `find_in_cells` and `tell_found` ask for.
+-- `compare`: its contract, `CompareEnds`, and what `find_in_cells` and `tell_found` require.
 use Rattle.std.proofs.Common.{sym, ap, subst, arith, ℕ, List, length}
 use Rattle.std.proofs.lemmas.Result.{err_from_is_err_and}
 use Rattle.command_files.specs.Inputs.{inputs_call, IsFile}

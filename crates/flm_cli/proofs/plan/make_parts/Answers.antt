@@ -1,4 +1,4 @@
--- `make_parts`: its contract, `AreParts`, that its loop keeps what it has to, and that no number overflows.
+-- `make_parts`: its contract, `AreParts`, that its loop keeps its invariant, and that no number overflows.
 use Rattle.std.proofs.Common.{◌+◌, List, [], refl, sym, subst, arith}
 use Rattle.flash_session.specs.declared.region_plan.RegionPlan.{RegionPlan}
 use Rattle.flm_cli.specs.Steps.{AreParts}

@@ -1,4 +1,4 @@
--- `plan`: its contract, `PlanEnds`, and what `read_files` and `print_plans` ask for.
+-- `plan`: its contract, `PlanEnds`, and what `read_files` and `print_plans` require.
 use Rattle.std.proofs.Common.{◌∙◌, sym, subst, ℕ}
 use Rattle.std.proofs.lemmas.Result.{err_from_is_err_and}
 use Rattle.board_file.specs.Limits.{size_of}

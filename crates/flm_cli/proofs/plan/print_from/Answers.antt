@@ -1,4 +1,4 @@
--- `print_from`: its contract, `PlansCells`, and what `survey` and `put_parts` ask for.
+-- `print_from`: its contract, `PlansCells`, and what `survey` and `put_parts` require.
 use Rattle.std.proofs.Common.{◌∙◌, sym}
 use Rattle.std.proofs.lemmas.Result.{err_from_is_err_and}
 use Rattle.outside_io.proofs.PutTexts.{puts_as}

@@ -1,4 +1,4 @@
--- `print_plans`: its contract, `PlansCells`, and what `make_parts` and `print_from` ask for.
+-- `print_plans`: its contract, `PlansCells`, and what `make_parts` and `print_from` require.
 use Rattle.std.proofs.lemmas.Grind.{common_steps}
 use Rattle.std.proofs.Common.{◌<◌, ◌^◌, List, map, sym, subst, arith}
 use Rattle.std.proofs.lemmas.Result.{err_from_is_err_and}

@@ -1,4 +1,4 @@
--- `put_parts`: its contract, `Puts`, that its loop keeps what it has to, and what `put_part` asks for.
+-- `put_parts`: its contract, `Puts`, that its loop keeps its invariant, and what `put_part` requires.
 use Rattle.std.proofs.Common.{◌≤◌, ◌+◌, ◌^◌, ◌∙◌, List, ap, sym, subst, length, nat_lt}
 use Rattle.std.specs.List.{flat_map}
 use Rattle.std.proofs.lemmas.List.{take_all}

@@ -1,4 +1,4 @@
--- `survey`: its clauses `looks` and `plans`, and what `survey_parts` asks for.
+-- `survey`: its clauses `looks` and `plans`, and what `survey_parts` requires.
 use Rattle.std.proofs.Common.{◌∙◌, sym}
 use Rattle.std.proofs.lemmas.Result.{err_from_is_err_and}
 use Rattle.device_dump.proofs.LooksLemmas.{looks_dropped, looks_by}

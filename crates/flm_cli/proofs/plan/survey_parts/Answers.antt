@@ -1,4 +1,4 @@
--- `survey_parts`: its clauses `plans`, `reads` and `cause`, that its loop keeps what it has to, and what `index` and `survey_cells` ask for.
+-- `survey_parts`: its clauses `plans`, `reads` and `cause`, that its loop keeps its invariant, and what `index` and `survey_cells` require.
 use Rattle.std.proofs.Common.{◌<◌, get_or, length, ap, refl, arith}
 use Rattle.readback.proofs.ReadbackLemmas.{only_reads_cells_then}
 use Rattle.flash_session.specs.declared.region_plan.RegionPlan.{RegionPlan}

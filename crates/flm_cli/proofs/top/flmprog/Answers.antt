@@ -1,4 +1,4 @@
--- `flmprog`: its contract, `Answers`, and what `run` asks for.
+-- `flmprog`: its contract, `Answers`, and what `run` requires.
 use Rattle.report_text.specs.Refusal.{out_of_memory}
 use Rattle.command_files.specs.Call.{refused}
 use Rattle.command_files.specs.Shown.{answer_of}

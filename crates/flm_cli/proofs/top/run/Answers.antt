@@ -1,4 +1,4 @@
--- `run`: its contract, `EndsOf`, and what `program`, `begin`, `plan`, `verify`, `compare`, `inspect` and `dump` ask for.
+-- `run`: its contract, `EndsOf`, and what `program`, `begin`, `plan`, `verify`, `compare`, `inspect` and `dump` require.
 use Rattle.std.proofs.Common.{refl, Some, None, []}
 use Rattle.std.proofs.lemmas.List.Elements.{All-head}
 use Rattle.command_words.specs.Words.{program, begin, resume, revert, plan, verify, compare, status, inspect, dump, demo, Asked}

@@ -1,4 +1,4 @@
--- `find_in_image`: its clauses `looks` and `found`, and what `find_in_regions` asks for.
+-- `find_in_image`: its clauses `looks` and `found`, and what `find_in_regions` requires.
 use Rattle.std.proofs.Common.{arith}
 use Rattle.std.proofs.lemmas.Grind.{common_steps}
 use Rattle.std.proofs.lemmas.Result.{err_from_is_err_and}

@@ -1,4 +1,4 @@
--- `find_in_region`: its clauses `ok`, `bench` and `cause`, that its loop keeps what it has to, and what `find_in_run` asks for.
+-- `find_in_region`: its clauses `ok`, `bench` and `cause`, that its loop keeps its invariant, and what `find_in_run` requires.
 use Rattle.std.proofs.Common.{refl, sym, arith, ◌∙◌, None}
 use Rattle.flm_cli.proofs.DifferenceLemmas.{runs_here, run_ends, runs_then, runs_differ, all_agree, uncaused}
 use Rattle.readback.proofs.ReadbackLemmas.{only_reads_cells_then}

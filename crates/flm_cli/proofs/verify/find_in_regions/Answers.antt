@@ -1,4 +1,4 @@
--- `find_in_regions`: its clauses `ok`, `bench` and `cause`, that its loop keeps what it has to, and what `find_in_region` asks for.
+-- `find_in_regions`: its clauses `ok`, `bench` and `cause`, that its loop keeps its invariant, and what `find_in_region` requires.
 use Rattle.std.proofs.lemmas.Grind.{common_steps}
 use Rattle.std.proofs.Common.{◌∙◌, refl, sym, ap, subst, arith, List, None}
 use Rattle.board_file.specs.declared.region.Region.{Region}

@@ -1,4 +1,4 @@
--- `verify`: its contract, `VerifyEnds`, and what `read_files` and `tell_found` ask for.
+-- `verify`: its contract, `VerifyEnds`, and what `read_files` and `tell_found` require.
 use Rattle.std.proofs.Common.{◌∙◌, sym, subst, ℕ}
 use Rattle.std.proofs.lemmas.Result.{err_from_is_err_and}
 use Rattle.command_words.specs.Requested.{files_of}

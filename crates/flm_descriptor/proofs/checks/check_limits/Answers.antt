@@ -1,4 +1,4 @@
--- `check_limits`: that it keeps its contract, and what `check_device` asks for.
+-- `check_limits`: that it keeps its contract, and what `check_device` requires.
 use Rattle.std.proofs.Common.{arith}
 use Rattle.std.proofs.lemmas.Grind.{common_steps}
 use Rattle.flm_descriptor.proofs.checks.check_limits.Goals as goal

@@ -1,4 +1,4 @@
--- `check_order`: its clauses `fault` and `rise`, and that its loop keeps what it has to.
+-- `check_order`: its clauses `fault` and `rise`, and that its loop keeps its invariant.
 use Rattle.std.proofs.Common.{◌≡◌, ◌-◌, ◌≤◌, ◌<◌, ◌+◌, arith, below_more, length, refl}
 use Rattle.std.proofs.lemmas.Bool.{lt-leb}
 use Rattle.elf32.proofs.SearchLemmas.{first_below-zero, first_below-none}

@@ -1,4 +1,4 @@
--- `check_sizes`: its clause `fault`, and that its loop keeps what it has to.
+-- `check_sizes`: its clause `fault`, and that its loop keeps its invariant.
 use Rattle.std.proofs.Common.{◌≡◌, ◌≤◌, ◌∙◌, sym, arith, below_more, length, refl}
 use Rattle.std.proofs.lemmas.Bool.{ne_eqb}
 use Rattle.elf32.proofs.SearchLemmas.{first_below-zero, first_below-none}

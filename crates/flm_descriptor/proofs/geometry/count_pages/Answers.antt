@@ -1,4 +1,4 @@
--- `count_pages`: the value that it answers, that its loop keeps what it has to, and what `run_pages` asks for.
+-- `count_pages`: the value that it answers, that its loop keeps its invariant, and what `run_pages` requires.
 use Rattle.std.proofs.Common.{◌≡◌, ℕ, ◌+◌, ◌<◌, get_or, ap, sym, ◌∙◌, arith, length, List}
 use Rattle.flm_descriptor.specs.declared.geometry.Run.{Run}
 use Rattle.flm_descriptor.specs.Shape.{runs_of, pieces, run_at, cut, pages_of}

@@ -1,4 +1,4 @@
--- `count_sectors`: the value that it answers, that its loop keeps what it has to, and what `count_pieces` asks for.
+-- `count_sectors`: the value that it answers, that its loop keeps its invariant, and what `count_pieces` requires.
 use Rattle.std.proofs.Common.{◌≡◌, ℕ, ◌<◌, get_or, ap, sym, ◌∙◌, arith, length}
 use Rattle.flm_descriptor.specs.declared.geometry.Run.{Run}
 use Rattle.flm_descriptor.specs.Shape.{runs_of, pieces}

@@ -1,4 +1,4 @@
--- `algorithm`: that its result is as its type asks.
+-- `algorithm`: that its result meets the clauses of its type.
 use Rattle.std.proofs.Common.{arith}
 use Rattle.std.proofs.lemmas.Grind.{common_steps}
 use Rattle.flm_descriptor.proofs.read.algorithm.Goals as goal

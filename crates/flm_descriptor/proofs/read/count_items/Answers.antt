@@ -1,4 +1,4 @@
--- `count_items`: its clause `count`, and that its loop keeps what it has to.
+-- `count_items`: its clause `count`, and that its loop keeps its invariant.
 use Rattle.std.proofs.Common.{◌≡◌, ◌<◌, ◌∙◌, sym, arith}
 use Rattle.elf32.proofs.SearchLemmas.{first_below-zero, first_below-none, first_below-first}
 use Rattle.flm_descriptor.specs.Described.{is_end, pairs}

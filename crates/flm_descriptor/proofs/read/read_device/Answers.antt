@@ -1,4 +1,4 @@
--- `read_device`: that it keeps its contract, what `le32` asks for, that no number overflows, and that each place is inside.
+-- `read_device`: that it keeps its contract, what `le32` requires, that no number overflows, and that each place is inside.
 use Rattle.std.proofs.lemmas.Grind.{common_steps}
 use Rattle.std.proofs.Common.{◌≡◌, ◌+◌, length, false, ltb, refl, arith}
 use Rattle.std.proofs.lemmas.Bool.{le-ltb}

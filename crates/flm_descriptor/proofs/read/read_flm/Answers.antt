@@ -1,4 +1,4 @@
--- `read_flm`: what `algorithm` asks for.
+-- `read_flm`: what `algorithm` requires.
 use Rattle.std.proofs.Common.{arith}
 use Rattle.std.proofs.lemmas.Grind.{common_steps}
 use Rattle.flm_descriptor.proofs.read.read_flm.Goals as goal

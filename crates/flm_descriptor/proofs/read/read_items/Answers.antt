@@ -1,4 +1,4 @@
--- `read_items`: that it keeps its contract, and that its loop keeps what it has to.
+-- `read_items`: that it keeps its contract, and that its loop keeps its invariant.
 use Rattle.std.proofs.lemmas.Grind.{common_steps}
 use Rattle.std.proofs.Common.{◌∷◌, [], sym, ap, ◌∙◌, arith, length, length-append}
 use Rattle.flm_descriptor.proofs.DescribedLemmas.{items_more}

@@ -1,4 +1,4 @@
--- `listing_at`: that it keeps its contract, and what `items` asks for.
+-- `listing_at`: that it keeps its contract, and what `items` requires.
 use Rattle.std.proofs.Common.{◌≡◌, ◌∙◌, ℕ, List, [], length, get_or, ap, refl, arith}
 use Rattle.std.proofs.lemmas.Grind.{common_steps}
 use Rattle.std.proofs.lemmas.Option.{slice_get_read}

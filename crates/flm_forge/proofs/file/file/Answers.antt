@@ -1,4 +1,4 @@
--- `file`: its clauses `bytes` and `listing_fits`, and what `put_headers` asks for.
+-- `file`: its clauses `bytes` and `listing_fits`, and what `put_headers` requires.
 use Rattle.std.proofs.Common.{◌≡◌, ◌++◌, ℕ, List, ap, ◌∙◌}
 use Rattle.std.specs.List.{flat_map}
 use Rattle.flm_forge.specs.declared.sizes.Sizes.{Sizes}

@@ -1,4 +1,4 @@
--- `open_benches`: its clauses, that its loop keeps what it has to, and what `open_bench` asks for.
+-- `open_benches`: its clauses, that its loop keeps its invariant, and what `open_bench` requires.
 use Rattle.std.proofs.Common.{◌≡◌, ◌<◌, ◌∙◌, List, [], length, take, map, ap, arith, subst, sym}
 use Rattle.host_files.specs.Bench.{job_name_of, cells_name_of, IsBeside, AllBeside}
 use Rattle.host_files.proofs.BesideLemmas.{all_beside_more}

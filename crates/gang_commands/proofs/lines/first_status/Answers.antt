@@ -1,4 +1,4 @@
--- `first_status`: that it keeps its contract where there is a refusal.
+-- `first_status`: that it keeps its contract if there is a refusal.
 use Rattle.std.proofs.Common.{arith}
 use Rattle.std.proofs.lemmas.Grind.{common_steps}
 use Rattle.gang_commands.proofs.lines.first_status.Goals as goal

@@ -1,4 +1,4 @@
--- `put_targets`: its contract, `PutsEnds`, and that its loop keeps what it has to.
+-- `put_targets`: its contract, `PutsEnds`, and that its loop keeps its invariant.
 use Rattle.std.proofs.Common.{◌<◌, ◌∙◌, sym, ap, arith, length, Option, option_map, option_copied}
 use Rattle.std.proofs.lemmas.List.{length-map}
 use Rattle.report_text.specs.Shown.{shown}

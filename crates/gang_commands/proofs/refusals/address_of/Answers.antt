@@ -1,4 +1,4 @@
--- `address_of`: what `find_address` asks for.
+-- `address_of`: what `find_address` requires.
 use Rattle.board_file.proofs.Laws.{region_at}
 use Rattle.gang_commands.proofs.refusals.address_of.Goals as goal
 

@@ -1,4 +1,4 @@
--- `flmgang`: its clauses `answers`, `usage`, `finished`, `campaigns` and `complete`, and what `open` and `run` ask for.
+-- `flmgang`: its clauses `answers`, `usage`, `finished`, `campaigns` and `complete`, and what `open` and `run` require.
 use Rattle.std.proofs.Common.{◌≡◌, ◌∙◌, length, refl, arith, inl, inr}
 use Rattle.command_files.specs.Call.{sink_call}
 use Rattle.gang_commands.proofs.CallLemmas.{have_ended, unfit_answers, unfit_finished, unfit_keeps, memory_answers, memory_finished, memory_keeps}

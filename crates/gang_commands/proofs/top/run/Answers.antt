@@ -1,4 +1,4 @@
--- `run`: its contract, `Runs`, and what `put_targets` asks for.
+-- `run`: its contract, `Runs`, and what `put_targets` requires.
 use Rattle.std.proofs.Common.{◌≡◌, ℕ, Result, refl, sym, subst, arith, inl, inr}
 use Rattle.outside_io.specs.declared.sink.OutputFault.{OutputFault}
 use Rattle.command_files.specs.Call.{SinkCall, sink_call}

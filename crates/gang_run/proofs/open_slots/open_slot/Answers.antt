@@ -1,4 +1,4 @@
--- `open_slot`: its clauses `slot`, `looked` and `first`, and what `survey_slot` asks for.
+-- `open_slot`: its clauses `slot`, `looked` and `first`, and what `survey_slot` requires.
 use Rattle.std.proofs.Common.{refl, sym, ap, subst, arith, ℕ, List, Result, Ok}
 use Rattle.std.proofs.lemmas.Grind.{common_steps}
 use Rattle.std.proofs.lemmas.Bool.{false≢true}

@@ -1,4 +1,4 @@
--- `slot_of`: its contract, `GivesSlot`, and what `into_parts` asks for.
+-- `slot_of`: its contract, `GivesSlot`, and what `into_parts` requires.
 use Rattle.std.proofs.Common.{OnOk, IsSome, Result, Ok, sym, subst}
 use Rattle.flash_session.specs.declared.fault.SurveyFault.{SurveyFault}
 use Rattle.flash_session.specs.Sessions.{job_in, surveyed}

@@ -1,4 +1,4 @@
--- `copies_of`: that it keeps its contract, and that its loop keeps what it has to.
+-- `copies_of`: that it keeps its contract, and that its loop keeps its invariant.
 use Rattle.std.proofs.Common.{◌≡◌, ◌∷◌, [], ◌++◌, ◌∙◌, List, ℕ, length, map, string_bytes, refl, sym, ap, append_assoc, append-nil, arith}
 use Rattle.std.proofs.lemmas.List.{map-append}
 use Rattle.std.specs.Vec.Iter.{into_iter_items}

@@ -1,4 +1,4 @@
--- `gather_digits`: that its loop keeps what it has to.
+-- `gather_digits`: that its loop keeps its invariant.
 use Rattle.std.proofs.Common.{arith}
 use Rattle.image_more.proofs.DigitLemmas.{digits_next}
 use Rattle.image_more.proofs.line.gather_digits.Goals as goal

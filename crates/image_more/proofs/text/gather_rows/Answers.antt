@@ -1,4 +1,4 @@
--- `gather_rows`: its contract, `Gathers`, that its loop keeps what it has to, and what `gather_run` asks for.
+-- `gather_rows`: its contract, `Gathers`, that its loop keeps its invariant, and what `gather_run` requires.
 use Rattle.std.proofs.Common.{◌+◌, ◌≤◌, ◌<◌, length, drop, ap, refl, subst, arith, []}
 use Rattle.std.proofs.lemmas.List.{drop_all}
 use Rattle.std.proofs.lemmas.Option.{get_or_from_slice_get}

@@ -1,4 +1,4 @@
--- `gather_run`: its clause `text`, and that its loop keeps what it has to.
+-- `gather_run`: its clause `text`, and that its loop keeps its invariant.
 use Rattle.std.proofs.Common.{◌+◌, ◌-◌, [], ◌∷◌, drop, arith}
 use Rattle.std.proofs.lemmas.Grind.{common_steps}
 use Rattle.std.specs.Prelude.{slice_range}

@@ -1,4 +1,4 @@
--- `gather_run`: what holds at each turn of its loop, and what falls with it.
+-- `gather_run`: what holds at each turn of its loop, and what decreases at each turn.
 use Rattle.std.proofs.Common.{length, drop, ◌-◌, ◌≤◌, ◌+◌}
 use Rattle.image_more.specs.Rows.{run_rows}
 use Rattle.image_more.proofs.RowLemmas.{HasGathered}

@@ -1,4 +1,4 @@
--- `read_uf2`: its clause `err`, and that its loop keeps what it has to.
+-- `read_uf2`: its clause `err`, and that its loop keeps its invariant.
 use Rattle.std.proofs.Common.{arith}
 use Rattle.std.proofs.lemmas.Grind.{common_steps}
 use Rattle.image_more.specs.Uf2.{runs_before}

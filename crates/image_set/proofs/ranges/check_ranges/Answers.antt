@@ -1,4 +1,4 @@
--- `check_ranges`: its clauses `refused` and `ok`, that its loop keeps what it has to, and what `find_outside` asks for.
+-- `check_ranges`: its clauses `refused` and `ok`, that its loop keeps its invariant, and what `find_outside` requires.
 use Rattle.std.proofs.Common.{◌≡◌, ◌≢◌, ◌<◌, ◌≤◌, ℕ, [], length, sym, ap, subst, arith, below_more}
 use Rattle.std.specs.Prelude.{IsTrue}
 use Rattle.std.proofs.lemmas.Option.{get_or_from_slice_get}

@@ -1,4 +1,4 @@
--- `find_outside`: what holds at each turn of its loop, and what falls with it.
+-- `find_outside`: what holds at each turn of its loop, and what decreases at each turn.
 use Rattle.std.proofs.Common.{ℕ, ◌<◌, ◌≤◌, ◌-◌}
 use Rattle.std.specs.Prelude.{IsTrue}
 use Rattle.image_set.specs.Ranges.{is_inside}

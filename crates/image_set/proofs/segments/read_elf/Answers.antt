@@ -1,4 +1,4 @@
--- `read_elf`: its clause `err`, and that its loop keeps what it has to.
+-- `read_elf`: its clause `err`, and that its loop keeps its invariant.
 use Rattle.std.proofs.Common.{◌≡◌, ◌<◌, ◌+◌, ℕ, List, true, false, length, refl, sym, subst, arith}
 use Rattle.std.proofs.lemmas.Bool.{eq-eqb, ne_eqb}
 use Rattle.std.proofs.lemmas.Result.{err_from_is_err_and}

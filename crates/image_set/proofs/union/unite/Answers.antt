@@ -1,4 +1,4 @@
--- `unite`: that its loop keeps what it has to, and that no number overflows.
+-- `unite`: that its loop keeps its invariant, and that no number overflows.
 use Rattle.std.proofs.Common.{◌^◌, arith}
 use Rattle.std.proofs.lemmas.Grind.{common_steps}
 use Rattle.byte_map.proofs.Runs.{few_runs}

@@ -1,4 +1,4 @@
--- `carry`: its clauses `told`, `early`, `kind`, `sound`, `prints`, `first`, `goes_on` and `counts`, and what `carry_on` asks for.
+-- `carry`: its clauses `told`, `early`, `kind`, `sound`, `prints`, `first`, `goes_on` and `counts`, and what `carry_on` requires.
 use Rattle.std.proofs.Common.{◌∙◌, refl, sym, ap, subst, ℕ, List}
 use Rattle.std.proofs.lemmas.Bool.{false≢true}
 use Rattle.job_file.proofs.FirstLemmas.{syncs_as, syncs_then}

@@ -1,4 +1,4 @@
--- `carry_on`: its clauses `sound`, `told`, `early`, `counts`, `kind`, `prints` and `goes_on`, and what `put_plans` and `finish` ask for.
+-- `carry_on`: its clauses `sound`, `told`, `early`, `counts`, `kind`, `prints` and `goes_on`, and what `put_plans` and `finish` require.
 use Rattle.std.proofs.Common.{◌∙◌, refl, sym, ap, subst, ℕ, List, IsSomeAnd}
 use Rattle.std.proofs.lemmas.Result.{err_from_is_err_and}
 use Rattle.bench_model.specs.History.{LeftOnly}

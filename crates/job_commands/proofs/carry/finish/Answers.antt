@@ -1,4 +1,4 @@
--- `finish`: its clauses `sound`, `told`, `goes_on`, `counts` and `prints`, and what `close` and `address_of` ask for.
+-- `finish`: its clauses `sound`, `told`, `goes_on`, `counts` and `prints`, and what `close` and `address_of` require.
 use Rattle.std.proofs.Common.{◌≡◌, ◌<◌, ◌∙◌, ℕ, refl, sym, ap, subst, drop, List, Option, Some, None, IsSome}
 use Rattle.std.proofs.lemmas.Result.{err_from_is_err_and}
 use Rattle.board_file.specs.declared.region.Region.{Region}

@@ -1,4 +1,4 @@
--- `begin`: its contract, `BeginEnds`, and what `begin_alone` asks for.
+-- `begin`: its contract, `BeginEnds`, and what `begin_alone` requires.
 use Rattle.std.proofs.Common.{◌∙◌, sym}
 use Rattle.std.proofs.lemmas.Result.{err_from_is_err_and}
 use Rattle.report_text.specs.Shown.{shown}

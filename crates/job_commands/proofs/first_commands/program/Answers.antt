@@ -1,4 +1,4 @@
--- `program`: its contract, `ProgramEnds`, and what `begin_job` asks for.
+-- `program`: its contract, `ProgramEnds`, and what `begin_job` requires.
 use Rattle.std.proofs.Common.{◌∙◌, sym}
 use Rattle.std.proofs.lemmas.Result.{err_from_is_err_and}
 use Rattle.report_text.specs.Shown.{shown}

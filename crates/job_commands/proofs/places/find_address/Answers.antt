@@ -1,4 +1,4 @@
--- `find_address`: its contract where the place lies in a region, and that its loop keeps what it has to.
+-- `find_address`: its contract where the place lies in a region, and that its loop keeps its invariant.
 use Rattle.job_commands.proofs.AddressLemmas.{search_on, search_ends}
 use Rattle.job_commands.proofs.places.find_address.Goals as goal
 

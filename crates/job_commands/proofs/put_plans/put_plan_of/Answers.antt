@@ -1,4 +1,4 @@
--- `put_plan_of`: its contract, `Puts`, what `geometry_of`, `plan_of` and `put_plan` ask for, and that an index is in bounds.
+-- `put_plan_of`: its contract, `Puts`, what `geometry_of`, `plan_of` and `put_plan` require, and that an index is in bounds.
 use Rattle.std.proofs.Common.{◌≡◌, ◌∙◌, arith, ap, subst, List, length, get_or}
 use Rattle.flm_descriptor.specs.declared.algorithm.Algorithm.{Algorithm}
 use Rattle.job_text.specs.declared.job.Job.{Job}

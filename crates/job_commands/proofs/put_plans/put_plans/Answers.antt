@@ -1,4 +1,4 @@
--- `put_plans`: its contract, `Puts`, and what `put_plan_of` and `put_region_plan` ask for.
+-- `put_plans`: its contract, `Puts`, and what `put_plan_of` and `put_region_plan` require.
 use Rattle.std.proofs.Common.{◌≡◌, arith, ap, length}
 use Rattle.job_text.specs.declared.job.Job.{Job}
 use Rattle.flash_session.specs.Sessions.{job_in, surveyed}

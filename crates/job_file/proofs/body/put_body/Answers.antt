@@ -1,4 +1,4 @@
--- `put_body`: its clauses `moments`, `cells`, `hash`, `ok`, `store` and `device`, that its loop keeps what it has to, and what `copy_cells` asks for.
+-- `put_body`: its clauses `moments`, `cells`, `hash`, `ok`, `store` and `device`, that its loop keeps its invariant, and what `copy_cells` requires.
 use Rattle.std.proofs.Common.{◌≡◌, ◌≤◌, ◌-◌, ◌++◌, ◌∷◌, ◌∙◌, ℕ, List, length, take, drop, ap, refl, sym, subst, arith, length-append}
 use Rattle.std.proofs.lemmas.List.{length-take, length-drop, append-nil, take_all}
 use Rattle.std.proofs.lemmas.Grind.{common_steps}

@@ -1,4 +1,4 @@
--- `put_body`: what holds at each turn of its loop, and what falls with it.
+-- `put_body`: what holds at each turn of its loop, and what decreases at each turn.
 use Rattle.std.proofs.Common.{◌-◌}
 use Rattle.job_text.specs.Parts.{front_of}
 use Rattle.job_file.proofs.PutLemmas.{PutSoFar}

@@ -1,4 +1,4 @@
--- `put_files`: its contract, `Appends`, and what `append` asks for.
+-- `put_files`: its contract, `Appends`, and what `append` requires.
 use Rattle.std.proofs.Common.{ℕ, List, subst, arith}
 use Rattle.std.specs.List.{concat}
 use Rattle.job_text.specs.Parts.{flms_of}

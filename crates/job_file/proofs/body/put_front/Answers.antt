@@ -1,4 +1,4 @@
--- `put_front`: its clauses `appends` and `end`, and what `put_texts` and `put_runs` ask for.
+-- `put_front`: its clauses `appends` and `end`, and what `put_texts` and `put_runs` require.
 use Rattle.std.proofs.Common.{◌≡◌, ◌+◌, ◌++◌, ◌∙◌, ℕ, List, Result, Err, length, sym, ap, subst, arith, length-append}
 use Rattle.std.specs.List.{concat, flat_map}
 use Rattle.std.proofs.lemmas.Result.{IfOk-weaker}

@@ -1,4 +1,4 @@
--- `put_hashed`: its clauses `ok`, `moments`, `cells`, `store` and `device`, and what `file_write` asks for.
+-- `put_hashed`: its clauses `ok`, `moments`, `cells`, `store` and `device`, and what `file_write` requires.
 use Rattle.std.proofs.Common.{◌∙◌, ◌++◌, ℕ, List, length, ap, arith, refl}
 use Rattle.sha2.proofs.Facts256.{length-sha256}
 use Rattle.bench_model.specs.Calls.{written}

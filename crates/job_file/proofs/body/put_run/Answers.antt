@@ -1,4 +1,4 @@
--- `put_run`: its contract, `Appends`, and what `append` asks for.
+-- `put_run`: its contract, `Appends`, and what `append` requires.
 use Rattle.std.proofs.Common.{◌++◌, ℕ, List, length, subst, arith}
 use Rattle.job_text.specs.Body.{field, run_text}
 use Rattle.job_text.specs.Runs.{run_of}

@@ -1,4 +1,4 @@
--- `put_runs`: its clauses `appends` and `end`, that its loop keeps what it has to, and what `put_run` asks for.
+-- `put_runs`: its clauses `appends` and `end`, that its loop keeps its invariant, and what `put_run` requires.
 use Rattle.std.proofs.Common.{◌≡◌, ◌+◌, ◌++◌, ◌∙◌, List, Result, Err, take, length, ap, arith}
 use Rattle.std.specs.List.{flat_map}
 use Rattle.std.proofs.lemmas.List.{take_all}

@@ -1,4 +1,4 @@
--- `put_texts`: its contract, `Appends`, and what `put_files` asks for.
+-- `put_texts`: its contract, `Appends`, and what `put_files` requires.
 use Rattle.std.proofs.Common.{◌++◌, arith}
 use Rattle.std.specs.List.{concat}
 use Rattle.job_text.specs.Parts.{flms_of}

@@ -1,4 +1,4 @@
--- `judge_head`: its clauses `said` and `text`, and what `take_head` asks for.
+-- `judge_head`: its clauses `said` and `text`, and what `take_head` requires.
 use Rattle.std.proofs.Common.{◌≡◌, ℕ, List, Ok, take, subst, arith}
 use Rattle.job_text.specs.Reading.{head_at}
 use Rattle.job_text.specs.Shown.{Fails}

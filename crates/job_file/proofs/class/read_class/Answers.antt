@@ -1,4 +1,4 @@
--- `read_class`: its clause `class`, and what `read_opened` asks for.
+-- `read_class`: its clause `class`, and what `read_opened` requires.
 use Rattle.std.proofs.Common.{◌∙◌, true, ℕ, List, Bool, length, ap, subst, sym}
 use Rattle.std.proofs.lemmas.Result.{IfOk-weaker}
 use Rattle.job_text.specs.Stands.{IsClassOf}

@@ -1,4 +1,4 @@
--- `read_head`: its clause `said`, and what `read_head_into` asks for.
+-- `read_head`: its clause `said`, and what `read_head_into` requires.
 use Rattle.std.proofs.Common.{◌≡◌, ap, drop, arith, refl}
 use Rattle.std.proofs.lemmas.Grind.{common_steps}
 use Rattle.job_text.specs.declared.head.Places.{Places}

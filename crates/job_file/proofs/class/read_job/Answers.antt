@@ -1,4 +1,4 @@
--- `read_job`: its clauses `ok`, `err` and `reads`, and what `read_rest` asks for.
+-- `read_job`: its clauses `ok`, `err` and `reads`, and what `read_rest` requires.
 use Rattle.std.proofs.Common.{◌∙◌, ℕ, List, Result, length, drop, sym, ap, subst}
 use Rattle.std.proofs.lemmas.Result.{IfOk-weaker, IfErr-weaker}
 use Rattle.job_text.specs.Reading.{Found, places_of, rest_at}

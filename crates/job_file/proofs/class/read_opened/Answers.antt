@@ -1,4 +1,4 @@
--- `read_opened`: its clauses `class`, `reads` and `counted`, and what `find_damage` asks for.
+-- `read_opened`: its clauses `class`, `reads` and `counted`, and what `find_damage` requires.
 use Rattle.std.proofs.Common.{◌≡◌, ◌∙◌, ℕ, List, Option, Some, length, drop, ap, subst, sym, refl, arith, true}
 use Rattle.std.proofs.lemmas.Grind.{common_steps}
 use Rattle.job_text.specs.Reading.{format_in, kept_in}

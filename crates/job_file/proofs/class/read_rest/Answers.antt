@@ -1,4 +1,4 @@
--- `read_rest`: its clauses `err`, `ok`, `reads` and `counted`, that its result is as its type asks, and what `read_said` and `read_runs` ask for.
+-- `read_rest`: its clauses `err`, `ok`, `reads` and `counted`, that its result meets the clauses of its type, and what `read_said` and `read_runs` require.
 use Rattle.std.proofs.Common.{◌≡◌, ◌++◌, ◌∙◌, ℕ, List, Result, Ok, Err, refl, length, drop, ap, sym, subst, arith, IsTrue}
 use Rattle.std.specs.List.{flat_map}
 use Rattle.board_file.specs.declared.region.Region.{Region}

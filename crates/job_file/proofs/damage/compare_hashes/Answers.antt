@@ -1,4 +1,4 @@
--- `compare_hashes`: its clauses `ok`, `differ`, `reads` and `cause`, and what `read_kept` asks for.
+-- `compare_hashes`: its clauses `ok`, `differ`, `reads` and `cause`, and what `read_kept` requires.
 use Rattle.std.proofs.Common.{◌∙◌, ℕ, List, take, drop, length, ap, sym, arith, refl}
 use Rattle.std.proofs.lemmas.List.{length-drop, drop-drop}
 use Rattle.sha2.specs.Sha256.{sha256}

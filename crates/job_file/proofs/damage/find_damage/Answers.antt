@@ -1,4 +1,4 @@
--- `find_damage`: its clause `ok`, and what `compare_hashes` asks for.
+-- `find_damage`: its clause `ok`, and what `compare_hashes` requires.
 use Rattle.std.proofs.Common.{◌∙◌, drop, refl}
 use Rattle.bench_model.proofs.Moments.{only_reads_here}
 use Rattle.job_file.proofs.HashLemmas.{first_intact, second_by}

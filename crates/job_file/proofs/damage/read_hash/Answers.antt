@@ -1,4 +1,4 @@
--- `read_hash`: its clauses `ok` and `reads`, that its loop keeps what it has to, and what `hash_window` asks for.
+-- `read_hash`: its clauses `ok` and `reads`, that its loop keeps its invariant, and what `hash_window` requires.
 use Rattle.std.proofs.Common.{◌≡◌, ◌≤◌, ◌-◌, ◌∙◌, ℕ, List, length, take, drop, ap, refl, arith, length-append}
 use Rattle.std.proofs.lemmas.List.{length-take, length-drop, take_all}
 use Rattle.std.proofs.lemmas.Grind.{common_steps}

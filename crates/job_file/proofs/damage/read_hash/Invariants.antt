@@ -1,4 +1,4 @@
--- `read_hash`: what holds at each turn of its loop, and what falls with it.
+-- `read_hash`: what holds at each turn of its loop, and what decreases at each turn.
 use Rattle.std.proofs.Common.{◌-◌}
 use Rattle.job_file.proofs.HashLemmas.{HashedSoFar}
 use Rattle.job_file.proofs.damage.read_hash.Given as goal

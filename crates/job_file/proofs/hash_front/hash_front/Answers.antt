@@ -1,4 +1,4 @@
--- `hash_front`: its contract, `Holds256`, and what `hash_runs` asks for.
+-- `hash_front`: its contract, `Holds256`, and what `hash_runs` requires.
 use Rattle.std.proofs.Common.{◌≡◌, ◌-◌, ◌++◌, ◌∙◌, [], ℕ, List, length, take, drop, ap, subst, arith}
 use Rattle.std.specs.List.{concat, flat_map}
 use Rattle.std.proofs.lemmas.List.{take_all, length-drop}

@@ -1,4 +1,4 @@
--- `hash_runs`: its contract, `Holds256`, that its loop keeps what it has to, and what `hash_run` asks for.
+-- `hash_runs`: its contract, `Holds256`, that its loop keeps its invariant, and what `hash_run` requires.
 use Rattle.std.proofs.Common.{◌++◌, ℕ, List, take, sym, refl, subst, arith}
 use Rattle.std.specs.List.{flat_map}
 use Rattle.std.proofs.lemmas.List.{append-nil, take_all}

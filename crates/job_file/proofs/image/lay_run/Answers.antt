@@ -1,4 +1,4 @@
--- `lay_run`: its clause `ok`, that its loop keeps what it has to, and what `lay_window` asks for.
+-- `lay_run`: its clause `ok`, that its loop keeps its invariant, and what `lay_window` requires.
 use Rattle.std.proofs.Common.{◌≡◌, ◌≤◌, ◌+◌, ◌-◌, ◌++◌, ◌∙◌, [], ℕ, List, length, take, drop, ap, refl, arith, length-append}
 use Rattle.std.proofs.lemmas.List.{length-take, length-drop}
 use Rattle.std.proofs.lemmas.Grind.{common_steps}

@@ -1,4 +1,4 @@
--- `lay_run`: what holds at each turn of its loop, and what falls with it.
+-- `lay_run`: what holds at each turn of its loop, and what decreases at each turn.
 use Rattle.std.proofs.Common.{◌-◌}
 use Rattle.job_file.proofs.ImageLemmas.{LaidSoFar}
 use Rattle.job_file.proofs.image.lay_run.Given as goal

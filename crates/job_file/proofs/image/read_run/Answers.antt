@@ -1,4 +1,4 @@
--- `read_run`: its clauses `ok`, `err`, `reads` and `counted`, and what `lay_run` asks for.
+-- `read_run`: its clauses `ok`, `err`, `reads` and `counted`, and what `lay_run` requires.
 use Rattle.std.proofs.Common.{ℕ, List, length, drop, ap, arith}
 use Rattle.job_text.specs.Reading.{run_at}
 use Rattle.bench_model.proofs.Moments.{only_reads_then}

@@ -1,4 +1,4 @@
--- `read_runs`: its clauses `gives`, `text`, `inside`, `taken` and `reads`, that its loop keeps what it has to, and what `read_run` asks for.
+-- `read_runs`: its clauses `gives`, `text`, `inside`, `taken` and `reads`, that its loop keeps its invariant, and what `read_run` requires.
 use Rattle.std.proofs.Common.{List, drop, refl, sym, subst, arith}
 use Rattle.std.proofs.lemmas.Grind.{common_steps}
 use Rattle.byte_map.specs.Image.{Run}

@@ -1,4 +1,4 @@
--- `fill`: that its loop keeps what it has to.
+-- `fill`: that its loop keeps its invariant.
 use Rattle.std.proofs.Common.{rules, ◌≡◌, ◌≤◌, ◌+◌, ◌-◌, ◌∙◌, length, take, drop, ap, refl, arith, List, ℕ}
 use Rattle.std.proofs.lemmas.List.{places, length-take, length-drop}
 use Rattle.std.proofs.lemmas.Grind.{common_steps}

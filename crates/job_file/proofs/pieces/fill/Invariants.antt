@@ -1,4 +1,4 @@
--- `fill`: what holds at each turn of its loop, and what falls with it.
+-- `fill`: what holds at each turn of its loop, and what decreases at each turn.
 use Rattle.std.proofs.Common.{length, ◌-◌}
 use Rattle.job_file.proofs.PieceLemmas.{SoFar}
 use Rattle.job_file.proofs.pieces.fill.Given as goal

@@ -1,4 +1,4 @@
--- `read_text`: its clause `gives`, and what `read_bytes` asks for.
+-- `read_text`: its clause `gives`, and what `read_bytes` requires.
 use Rattle.std.proofs.Common.{◌∙◌, ℕ, List, Ok, drop, sym, ap, arith, refl}
 use Rattle.std.proofs.lemmas.List.{length-drop, drop-drop}
 use Rattle.job_text.specs.Reading.{text_at}

@@ -1,4 +1,4 @@
--- `snapshot_into`: its clause `ok`, and what `file_read` asks for.
+-- `snapshot_into`: its clause `ok`, and what `file_read` requires.
 use Rattle.std.proofs.Common.{length, arith}
 use Rattle.std.proofs.lemmas.Grind.{common_steps}
 use Rattle.job_file.proofs.TextLemmas.{some_cells, snapshot_within}

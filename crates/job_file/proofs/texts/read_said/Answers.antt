@@ -1,4 +1,4 @@
--- `read_said`: its clauses `gives`, `fit`, `reads` and `counted`, and what `read_file` and `read_second` ask for.
+-- `read_said`: its clauses `gives`, `fit`, `reads` and `counted`, and what `read_file` and `read_second` require.
 use Rattle.std.proofs.Common.{◌≡◌, ◌+◌, ◌∙◌, true, ℕ, List, Ok, length, drop, refl, ap, subst, arith}
 use Rattle.board_file.specs.declared.region.Region.{Region}
 use Rattle.board_file.specs.Shown as board

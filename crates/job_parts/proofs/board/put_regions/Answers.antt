@@ -1,4 +1,4 @@
--- `put_regions`: its contract, `Puts`, and that its loop keeps what it has to.
+-- `put_regions`: its contract, `Puts`, and that its loop keeps its invariant.
 use Rattle.std.proofs.Common.{ap, arith}
 use Rattle.std.proofs.lemmas.Grind.{common_steps}
 use Rattle.job_parts.specs.Board.{region_text}

@@ -1,4 +1,4 @@
--- `copy`: its contract, that its loop keeps what it has to, and what `copy_window` asks for.
+-- `copy`: its contract, that its loop keeps its invariant, and what `copy_window` requires.
 use Rattle.std.proofs.Common.{◌≡◌, ◌+◌, ◌-◌, ◌∙◌, ◌++◌, ℕ, List, length, take, drop, ap, refl, subst, sym, arith, length-append, append-nil}
 use Rattle.std.proofs.lemmas.List.{length-take, length-drop}
 use Rattle.bench_model.proofs.Moments.{only_reads_here}

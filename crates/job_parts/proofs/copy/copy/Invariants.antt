@@ -1,4 +1,4 @@
--- `copy`: what holds at each turn of its loop, and what falls with it.
+-- `copy`: what holds at each turn of its loop, and what decreases at each turn.
 use Rattle.std.proofs.Common.{◌-◌}
 use Rattle.job_parts.proofs.GiveLemmas.{CopiedSoFar}
 use Rattle.job_parts.proofs.copy.copy.Given as goal

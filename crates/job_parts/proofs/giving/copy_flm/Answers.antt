@@ -1,4 +1,4 @@
--- `copy_flm`: its contract, `PutsPart`, and what `copy` asks for.
+-- `copy_flm`: its contract, `PutsPart`, and what `copy` requires.
 use Rattle.std.proofs.Common.{◌∙◌, ℕ, List, length, ap, sym, refl, arith, Some}
 use Rattle.job_text.proofs.OneTextLemmas.{has_fields}
 use Rattle.job_parts.specs.Parts.{index_of}

@@ -1,4 +1,4 @@
--- `put_board_text`: its contract, `PutsPart`, and what `copy` asks for.
+-- `put_board_text`: its contract, `PutsPart`, and what `copy` requires.
 use Rattle.std.proofs.Common.{◌∙◌, ℕ, List, length, ap, refl, arith}
 use Rattle.job_text.specs.declared.format.Format.{Format}
 use Rattle.job_text.specs.Reading.{places_of}

@@ -1,4 +1,4 @@
--- `put_snapshot`: its contract, `PutsPart`, and what `copy` asks for.
+-- `put_snapshot`: its contract, `PutsPart`, and what `copy` requires.
 use Rattle.std.proofs.Common.{◌∙◌, refl, arith}
 use Rattle.job_file.proofs.TextLemmas.{some_cells, snapshot_within}
 use Rattle.job_parts.proofs.LengthLemmas.{snapshot_there}

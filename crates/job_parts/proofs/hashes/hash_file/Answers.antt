@@ -1,4 +1,4 @@
--- `hash_file`: its clauses `ok`, `reads` and `cause`, that its loop keeps what it has to, and what `hash_window` asks for.
+-- `hash_file`: its clauses `ok`, `reads` and `cause`, that its loop keeps its invariant, and what `hash_window` requires.
 use Rattle.std.proofs.Common.{◌≡◌, ◌+◌, ◌-◌, ◌∙◌, ℕ, List, length, take, drop, ap, refl, subst, arith, length-append}
 use Rattle.std.proofs.lemmas.List.{length-take, length-drop}
 use Rattle.std.proofs.lemmas.Grind.{common_steps}

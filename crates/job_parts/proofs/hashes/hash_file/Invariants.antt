@@ -1,4 +1,4 @@
--- `hash_file`: what holds at each turn of its loop, and what falls with it.
+-- `hash_file`: what holds at each turn of its loop, and what decreases at each turn.
 use Rattle.std.proofs.Common.{◌-◌}
 use Rattle.job_parts.proofs.HashLemmas.{HashedSoFar}
 use Rattle.job_parts.proofs.hashes.hash_file.Given as goal

@@ -1,4 +1,4 @@
--- `hash_image`: its contract, and that its loop keeps what it has to.
+-- `hash_image`: its contract, and that its loop keeps its invariant.
 use Rattle.std.proofs.Common.{◌∙◌, List, take, ap, arith}
 use Rattle.std.proofs.lemmas.List.{take_all}
 use Rattle.sha2.specs.Sha256.{sha256}

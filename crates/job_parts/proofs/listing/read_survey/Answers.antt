@@ -1,4 +1,4 @@
--- `read_survey`: its clause `ok`, and what `hash_file` asks for.
+-- `read_survey`: its clause `ok`, and what `hash_file` requires.
 use Rattle.std.proofs.Common.{◌∙◌, ℕ, List, length, ap, sym, arith}
 use Rattle.sha2.specs.Sha256.{sha256}
 use Rattle.byte_map.specs.Image.{Run}

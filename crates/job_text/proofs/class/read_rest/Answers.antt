@@ -1,4 +1,4 @@
--- `read_rest`: that it keeps its contract, and that its result is as its type asks.
+-- `read_rest`: that it keeps its contract, and that its result meets the clauses of its type.
 use Rattle.std.proofs.Common.{◌≡◌, ◌∙◌, ◌-◌, ℕ, List, length, Ok, Err, sym, ap, subst, arith, IsTrue, Result}
 use Rattle.std.proofs.lemmas.Result.{err_from_is_err_and}
 use Rattle.board_file.specs.declared.region.Region.{Region}

@@ -1,4 +1,4 @@
--- `all_covered`: the value that it answers, and that its loop keeps what it has to.
+-- `all_covered`: the value that it answers, and that its loop keeps its invariant.
 use Rattle.std.proofs.Common.{rules, ◌≡◌, true, false, arith}
 use Rattle.std.proofs.lemmas.Grind.{common_steps}
 use Rattle.byte_map.specs.Image.{Run, end_of}

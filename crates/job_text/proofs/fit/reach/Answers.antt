@@ -1,4 +1,4 @@
--- `reach`: that its loop keeps what it has to.
+-- `reach`: that its loop keeps its invariant.
 use Rattle.std.proofs.Common.{arith}
 use Rattle.std.proofs.lemmas.Grind.{common_steps}
 use Rattle.job_text.proofs.fit.reach.Goals as goal

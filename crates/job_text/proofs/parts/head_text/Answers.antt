@@ -1,4 +1,4 @@
--- `head_text`: what `put_lengths` asks for.
+-- `head_text`: what `put_lengths` requires.
 use Rattle.std.proofs.Common.{arith}
 use Rattle.std.proofs.lemmas.Grind.{common_steps}
 use Rattle.job_text.proofs.PartLemmas.{blank_small}

@@ -1,4 +1,4 @@
--- `take_runs`: its clauses `gives` and `taken`, and that its loop keeps what it has to.
+-- `take_runs`: its clauses `gives` and `taken`, and that its loop keeps its invariant.
 use Rattle.std.proofs.Common.{◌+◌, length, arith}
 use Rattle.std.proofs.lemmas.Result.{err_from_is_err_and}
 use Rattle.std.proofs.lemmas.Grind.{common_steps}

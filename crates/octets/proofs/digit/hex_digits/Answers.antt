@@ -1,4 +1,4 @@
--- `hex_digits`: the value that it answers, and that its loop keeps what it has to.
+-- `hex_digits`: the value that it answers, and that its loop keeps its invariant.
 use Rattle.std.proofs.Common.{◌≡◌, ◌-◌, ◌/◌, ◌%◌, ◌∙◌, ℕ, drop, sym, ap, arith}
 use Rattle.std.proofs.lemmas.Grind.{common_steps}
 use Rattle.octets.specs.Digit.{hex_text, upper_digit}

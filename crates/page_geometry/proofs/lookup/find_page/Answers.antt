@@ -1,4 +1,4 @@
--- `find_page`: its clauses `sector`, `page` and `number`, what `last_at_most` asks for, `nonzero_div-result`, and `nonzero_rem-result`.
+-- `find_page`: its clauses `sector`, `page` and `number`, what `last_at_most` requires, `nonzero_div-result`, and `nonzero_rem-result`.
 use Rattle.std.proofs.Common.{arith}
 use Rattle.page_geometry.proofs.FindLemmas.{pages_rising, pages_first, page_parts, each_some}
 use Rattle.page_geometry.proofs.lookup.find_page.Goals as goal

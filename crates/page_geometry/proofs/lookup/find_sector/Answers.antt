@@ -1,4 +1,4 @@
--- `find_sector`: its clause `sector`, and what `last_at_most` asks for.
+-- `find_sector`: its clause `sector`, and what `last_at_most` requires.
 use Rattle.page_geometry.proofs.FindLemmas.{sectors_rising, sectors_first, sectors_found}
 use Rattle.page_geometry.proofs.lookup.find_sector.Goals as goal
 

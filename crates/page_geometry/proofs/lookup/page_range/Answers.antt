@@ -1,4 +1,4 @@
--- `page_range`: its contract, `IsAt`, and what `piece_at` asks for.
+-- `page_range`: its contract, `IsAt`, and what `piece_at` requires.
 use Rattle.std.proofs.Common.{◌-◌, subst, sym, arith}
 use Rattle.flm_descriptor.specs.Shape.{Range}
 use Rattle.page_geometry.specs.Geometry.{IsAt}

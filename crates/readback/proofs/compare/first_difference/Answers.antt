@@ -1,4 +1,4 @@
--- `first_difference`: its clause `ok`, and that its loop keeps what it has to.
+-- `first_difference`: its clause `ok`, and that its loop keeps its invariant.
 use Rattle.std.proofs.lemmas.Grind.{common_steps}
 use Rattle.std.proofs.Common.{arith, refl, sym, ◌∙◌}
 use Rattle.readback.proofs.ReadbackLemmas.{SoFar-then, SoFar-differs, only_reads_cells_then}

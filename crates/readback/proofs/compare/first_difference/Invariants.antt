@@ -1,4 +1,4 @@
--- `first_difference`: what holds at each turn of its loop, and what falls with it.
+-- `first_difference`: what holds at each turn of its loop, and what decreases at each turn.
 use Rattle.std.proofs.Common.{◌-◌, length}
 use Rattle.readback.proofs.ReadbackLemmas.{SoFar}
 use Rattle.readback.proofs.compare.first_difference.Given as goal

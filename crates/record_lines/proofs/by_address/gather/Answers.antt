@@ -1,4 +1,4 @@
--- `gather`: its contract, `AreRunsOfText`, and that its loop keeps what it has to.
+-- `gather`: its contract, `AreRunsOfText`, and that its loop keeps its invariant.
 use Rattle.std.proofs.Common.{◌≡◌, ◌-◌, ◌++◌, ◌∙◌, Bool, suc, List, [], take, drop, sym, subst, arith}
 use Rattle.std.specs.Bool.{OnTrue}
 use Rattle.std.proofs.lemmas.Grind.{common_steps}

@@ -1,4 +1,4 @@
--- `gather`: what holds at each turn of its loop, and what falls with it.
+-- `gather`: what holds at each turn of its loop, and what decreases at each turn.
 use Rattle.std.proofs.Common.{◌+◌, ◌-◌, ◌≤◌, ◌^◌, ℕ, length}
 use Rattle.octets.specs.Lines.{lines_of}
 use Rattle.record_lines.specs.Gathered.{AreRunsBefore}

@@ -1,4 +1,4 @@
--- `lay_all`: that its loop keeps what it has to, and that it keeps its contract.
+-- `lay_all`: that its loop keeps its invariant, and that it keeps its contract.
 use Rattle.std.proofs.Common.{◌<◌, ◌∙◌, [], length, sym, arith, rules}
 use Rattle.std.proofs.lemmas.Grind.{common_steps}
 use Rattle.std.proofs.lemmas.Option.{get_or_from_slice_get}

@@ -1,4 +1,4 @@
--- `read_by_line`: its clauses `ok` and `err`, and that its loop keeps what it has to.
+-- `read_by_line`: its clauses `ok` and `err`, and that its loop keeps its invariant.
 use Rattle.std.proofs.Common.{◌≡◌, ◌++◌, ◌-◌, ◌∙◌, ℕ, Bool, suc, List, [], take, drop, sym, subst, arith}
 use Rattle.std.specs.Bool.{OnTrue}
 use Rattle.std.proofs.lemmas.Grind.{common_steps}

@@ -1,4 +1,4 @@
--- `read_by_line`: what holds at each turn of its loop, and what falls with it.
+-- `read_by_line`: what holds at each turn of its loop, and what decreases at each turn.
 use Rattle.std.proofs.Common.{◌+◌, ◌-◌, ◌≤◌, ◌^◌, ℕ, length}
 use Rattle.record_lines.proofs.Reading.{HasRead}
 use Rattle.record_lines.proofs.by_line.read_by_line.Given as goal

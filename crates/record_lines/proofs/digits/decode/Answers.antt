@@ -1,4 +1,4 @@
--- `decode`: that it keeps its contract, and that its loop keeps what it has to.
+-- `decode`: that it keeps its contract, and that its loop keeps its invariant.
 use Rattle.std.proofs.Common.{◌≢◌, ◌<◌, ◌∙◌, length, sym, arith, below_more, get_or-set_other, get_or-set_same}
 use Rattle.std.proofs.lemmas.Grind.{same_number_lists}
 use Rattle.record_lines.proofs.Pairs.{length-pairs, get_or-pairs}

@@ -1,4 +1,4 @@
--- `put_printable`: its contract, `Puts`, and that its loop keeps what it has to.
+-- `put_printable`: its contract, `Puts`, and that its loop keeps its invariant.
 use Rattle.std.proofs.Common.{[], ◌∷◌, arith}
 use Rattle.std.proofs.lemmas.Grind.{common_steps}
 use Rattle.outside_io.proofs.PutTexts.{puts_nothing, puts_more, puts_breaks, puts_failed}

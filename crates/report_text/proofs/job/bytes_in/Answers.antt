@@ -1,4 +1,4 @@
--- `bytes_in`: that its loop keeps what it has to, and that no number overflows.
+-- `bytes_in`: that its loop keeps its invariant, and that no number overflows.
 use Rattle.std.proofs.Common.{arith, ◌<◌, ◌^◌, length}
 use Rattle.report_text.proofs.JobLemmas.{bytes_more, few_more}
 use Rattle.report_text.proofs.job.bytes_in.Goals as goal

@@ -1,4 +1,4 @@
--- `put_devices`: its contract, `Puts`, and that its loop keeps what it has to.
+-- `put_devices`: its contract, `Puts`, and that its loop keeps its invariant.
 use Rattle.std.proofs.Common.{ap, arith}
 use Rattle.std.proofs.lemmas.Grind.{common_steps}
 use Rattle.flm_descriptor.specs.declared.algorithm.Algorithm.{Algorithm}

@@ -1,4 +1,4 @@
--- `gather_sectors`: its contract, `Gathers`, and that its loop keeps what it has to.
+-- `gather_sectors`: its contract, `Gathers`, and that its loop keeps its invariant.
 use Rattle.std.proofs.Common.{arith, ap, ◌≡◌, ℕ}
 use Rattle.std.specs.Prelude.{codes, length}
 use Rattle.report_text.specs.Plan.{texts_below, member_text, set_text}

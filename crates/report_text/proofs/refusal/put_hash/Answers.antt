@@ -1,4 +1,4 @@
--- `put_hash`: its contract, `Puts`, and that its loop keeps what it has to.
+-- `put_hash`: its contract, `Puts`, and that its loop keeps its invariant.
 use Rattle.std.proofs.Common.{arith}
 use Rattle.std.proofs.lemmas.Grind.{common_steps}
 use Rattle.octets.specs.Digit.{hex_text}

@@ -1,4 +1,4 @@
--- `is_on_board`: what `is_on` asks for.
+-- `is_on_board`: what `is_on` requires.
 use Rattle.std.proofs.Common.{arith}
 use Rattle.std.proofs.lemmas.Grind.{common_steps}
 use Rattle.serve_law.proofs.check.is_on_board.Goals as goal

@@ -1,4 +1,4 @@
--- `read_to_end`: what holds at each turn of its loop, and what falls with it.
+-- `read_to_end`: what holds at each turn of its loop, and what decreases at each turn.
 use Rattle.std.proofs.Common.{◌≤◌, ◌-◌, ◌+◌, ◌^◌, vec_len}
 use Rattle.stream_files.proofs.RunLemmas.{IsRead}
 use Rattle.stream_files.proofs.source_inputs.read_to_end.Given as goal

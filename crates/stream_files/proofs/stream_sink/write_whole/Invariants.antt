@@ -1,4 +1,4 @@
--- `write_whole`: what holds at each turn of its loop, and what falls with it.
+-- `write_whole`: what holds at each turn of its loop, and what decreases at each turn.
 use Rattle.std.proofs.Common.{◌-◌, ◌+◌, ◌^◌, length}
 use Rattle.stream_files.proofs.RunLemmas.{IsTaken}
 use Rattle.stream_files.proofs.stream_sink.write_whole.Given as goal

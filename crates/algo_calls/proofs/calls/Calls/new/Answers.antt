@@ -1,4 +1,4 @@
--- `Calls::new`: that its result is as its type asks.
+-- `Calls::new`: that its result meets the clauses of its type.
 use Rattle.std.proofs.Common.{arith}
 use Rattle.std.proofs.lemmas.Grind.{common_steps}
 use Rattle.algo_calls.proofs.calls.Calls.new.Goals as goal

@@ -1,4 +1,4 @@
--- `CallsIn::new`: that its result is as its type asks.
+-- `CallsIn::new`: that its result meets the clauses of its type.
 use Rattle.std.proofs.Common.{arith}
 use Rattle.std.proofs.lemmas.Grind.{common_steps}
 use Rattle.algo_calls.proofs.calls_in.CallsIn.new.Goals as goal

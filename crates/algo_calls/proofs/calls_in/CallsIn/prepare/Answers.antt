@@ -1,4 +1,4 @@
--- `CallsIn::prepare`: that it keeps its contract, what `hand_over` asks for, and that its result is as its type asks.
+-- `CallsIn::prepare`: that it keeps its contract, what `hand_over` requires, and that its result meets the clauses of its type.
 use Rattle.algo_calls.specs.Shows.{setup_at}
 use Rattle.algo_calls.proofs.CallLemmas.{may_bytes}
 use Rattle.std.proofs.Common.{arith}

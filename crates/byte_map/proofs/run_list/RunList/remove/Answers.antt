@@ -1,4 +1,4 @@
--- `RunList::remove`: that its loop keeps what it has to, and what `remove_one` asks for.
+-- `RunList::remove`: that its loop keeps its invariant, and what `remove_one` requires.
 use Rattle.std.proofs.Common.{◌≡◌, ◌+◌, ◌∙◌, ◌++◌, ℕ, suc, List, take, drop, ap, arith}
 use Rattle.byte_map.specs.Image.{Run}
 use Rattle.byte_map.specs.Tree.{taken_out}

@@ -1,4 +1,4 @@
--- `Draws::put`: that it keeps its contract, and that its loop keeps what it has to.
+-- `Draws::put`: that it keeps its contract, and that its loop keeps its invariant.
 use Rattle.std.proofs.Common.{◌≡◌, ◌++◌, ℕ, sym, subst, arith}
 use Rattle.demo_job.specs.Generator.{draws, after}
 use Rattle.demo_job.proofs.GeneratorLemmas.{begin_bytes, more_bytes, more_state, not_after}

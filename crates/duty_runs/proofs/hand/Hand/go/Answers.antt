@@ -1,4 +1,4 @@
--- `Hand::go`: that its loop keeps its invariant, what `back` asks for, and its clauses where it comes back.
+-- `Hand::go`: that its loop keeps its invariant, what `back` requires, and its clauses where it comes back.
 use Rattle.std.proofs.Common.{◌≡◌, ◌≤◌, ◌<◌, ◌+◌, ◌-◌, ◌^◌, ◌∙◌, ℕ, List, length, slice_index, Option, refl, sym, ap, subst, arith}
 use Rattle.std.proofs.lemmas.Grind.{common_steps}
 use Rattle.armv6m_step.specs.Registers.{pc_of}

@@ -1,4 +1,4 @@
--- `Stand::try_chip`: its clause `tries`, and what `step` asks for.
+-- `Stand::try_chip`: its clause `tries`, and what `step` requires.
 use Rattle.duty_trials.specs.Stands.{setup_in, state_in, world_in}
 use Rattle.duty_trials.specs.Subjects.{setup_for}
 use Rattle.duty_trials.proofs.WorkLemmas.{may_chip, chip_tries}

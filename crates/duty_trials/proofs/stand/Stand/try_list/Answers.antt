@@ -1,4 +1,4 @@
--- `Stand::try_list`: its clause `broken`, that its loop keeps its invariant, and what `try_member` asks for.
+-- `Stand::try_list`: its clause `broken`, that its loop keeps its invariant, and what `try_member` requires.
 use Rattle.std.proofs.lemmas.Grind.{common_steps}
 use Rattle.std.proofs.Common.{ℕ, [], sym, ◌∙◌, ap, arith}
 use Rattle.target_core.specs.World.{World}

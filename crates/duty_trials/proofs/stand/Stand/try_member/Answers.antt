@@ -1,4 +1,4 @@
--- `Stand::try_member`: what `try_work` asks for.
+-- `Stand::try_member`: what `try_work` requires.
 use Rattle.std.proofs.Common.{arith}
 use Rattle.std.proofs.lemmas.Grind.{common_steps}
 use Rattle.duty_trials.proofs.stand.Stand.try_member.Goals as goal

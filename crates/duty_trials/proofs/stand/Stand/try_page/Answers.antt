@@ -1,4 +1,4 @@
--- `Stand::try_page`: its clause `tries`, and what `step` asks for.
+-- `Stand::try_page`: its clause `tries`, and what `step` requires.
 use Rattle.std.proofs.Common.{◌-◌, take, drop, refl}
 use Rattle.duty_trials.specs.Stands.{setup_in, state_in, world_in}
 use Rattle.duty_trials.specs.Subjects.{setup_for}

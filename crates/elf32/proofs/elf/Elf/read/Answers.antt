@@ -1,4 +1,4 @@
--- `Elf::read`: what `keep_names` asks for.
+-- `Elf::read`: what `keep_names` requires.
 use Rattle.std.proofs.Common.{arith}
 use Rattle.std.proofs.lemmas.Grind.{common_steps}
 use Rattle.elf32.proofs.elf.Elf.read.Goals as goal

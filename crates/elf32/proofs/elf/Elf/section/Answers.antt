@@ -1,4 +1,4 @@
--- `Elf::section`: what `section_at` asks for.
+-- `Elf::section`: what `section_at` requires.
 use Rattle.std.proofs.Common.{sym}
 use Rattle.elf32.specs.Format.{e_shnum}
 use Rattle.elf32.specs.Tables.{is_section}

@@ -1,4 +1,4 @@
--- `Strings::name`: its clauses `bad` and `within`, and what `string` asks for.
+-- `Strings::name`: its clauses `bad` and `within`, and what `string` requires.
 use Rattle.std.proofs.Common.{◌≡◌, ◌-◌, ◌<◌, arith, length, take, drop, refl}
 use Rattle.std.proofs.lemmas.List.{take_rest}
 use Rattle.std.specs.List.{position_or_len}

@@ -1,4 +1,4 @@
--- `Driver::load`: that it keeps its contract, and what `read` asks for.
+-- `Driver::load`: that it keeps its contract, and what `read` requires.
 use Rattle.flash_driver.proofs.RowLemmas.{busy_load, idle_range, found_fits, cell_load}
 use Rattle.std.proofs.Common.{refl, sym, ◌∙◌, arith}
 use Rattle.flash_driver.proofs.TouchLemmas.{touches_here, touches_look}

@@ -1,4 +1,4 @@
--- `Driver::program`: that it keeps its contract, and what `take` asks for.
+-- `Driver::program`: that it keeps its contract, and what `take` requires.
 use Rattle.flash_driver.proofs.RowLemmas.{blind_store}
 use Rattle.std.proofs.Common.{ap, ◌∙◌, sym, subst, Option, []}
 use Rattle.flash_layout.specs.Maps.{map_of}

@@ -1,4 +1,4 @@
--- `Driver::store`: that it keeps its contract, and what `program` asks for.
+-- `Driver::store`: that it keeps its contract, and what `program` requires.
 use Rattle.std.proofs.Common.{refl, sym, ◌∙◌, []}
 use Rattle.flash_driver.proofs.TouchLemmas.{touches_here}
 use Rattle.flash_driver.proofs.RowLemmas.{busy_store, found_fits, cell_store, unseen, register_store}

@@ -1,4 +1,4 @@
--- `FlashMap::find`: that it keeps its contract, that its loop keeps what it has to, and that no number overflows.
+-- `FlashMap::find`: that it keeps its contract, that its loop keeps its invariant, and that no number overflows.
 use Rattle.std.proofs.Common.{◌∙◌, ap, sym, List, arith}
 use Rattle.std.proofs.lemmas.Grind.{common_steps}
 use Rattle.std.proofs.lemmas.List.{drop_all}

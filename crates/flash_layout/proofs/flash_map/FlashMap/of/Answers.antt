@@ -1,4 +1,4 @@
--- `FlashMap::of`: that its result is as its type asks, that it keeps its contract, and that its loop keeps what it has to.
+-- `FlashMap::of`: that its result meets the clauses of its type, that it keeps its contract, and that its loop keeps its invariant.
 use Rattle.std.proofs.Common.{◌≡◌, subst, List, drop, [], arith}
 use Rattle.std.proofs.lemmas.Grind.{common_steps}
 use Rattle.std.proofs.lemmas.List.{drop_all}

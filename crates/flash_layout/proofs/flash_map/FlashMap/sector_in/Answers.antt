@@ -1,4 +1,4 @@
--- `FlashMap::sector_in`: that it keeps its contract, that its loop keeps what it has to, and that no number overflows.
+-- `FlashMap::sector_in`: that it keeps its contract, that its loop keeps its invariant, and that no number overflows.
 use Rattle.std.proofs.Common.{arith}
 use Rattle.std.proofs.lemmas.Grind.{common_steps}
 use Rattle.flash_layout.proofs.flash_map.FlashMap.sector_in.Goals as goal

@@ -1,4 +1,4 @@
--- `Player::begin_phase`: its clauses `turns`, `host` and `one`, and what `turn_to` and `load` ask for.
+-- `Player::begin_phase`: its clauses `turns`, `host` and `one`, and what `turn_to` and `load` require.
 use Rattle.std.proofs.Common.{refl, ap, arith}
 use Rattle.std.proofs.lemmas.Grind.{common_steps}
 use Rattle.flash_session.specs.declared.player.Player.{Player}

@@ -1,4 +1,4 @@
--- `Player::compare_through`: its clauses `turns`, `one` and `still`, what `compare_window` asks for, and that slices end within.
+-- `Player::compare_through`: its clauses `turns`, `one` and `still`, what `compare_window` requires, and that slices end within.
 use Rattle.std.proofs.Common.{◌≡◌, ◌-◌, ◌∙◌, ℕ, [], Option, Some, None, length, take, refl, sym, subst, arith}
 use Rattle.std.proofs.lemmas.Grind.{common_steps}
 use Rattle.std.proofs.lemmas.List.{length-take}

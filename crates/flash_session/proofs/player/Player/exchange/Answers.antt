@@ -1,4 +1,4 @@
--- `Player::exchange`: what `restart` asks for.
+-- `Player::exchange`: what `restart` requires.
 use Rattle.std.proofs.Common.{arith}
 use Rattle.std.proofs.lemmas.Grind.{common_steps}
 use Rattle.flash_session.proofs.player.Player.exchange.Goals as goal

@@ -1,4 +1,4 @@
--- `Player::go`: its clause `follows`, and that its loop keeps what it has to.
+-- `Player::go`: its clause `follows`, and that its loop keeps its invariant.
 use Rattle.std.proofs.Common.{sym, subst}
 use Rattle.flash_session.specs.declared.cursor.Place.TheVariants as place
 use Rattle.flash_session.specs.Targets.{goal_for}

@@ -1,4 +1,4 @@
--- `Player::go`: what holds at each turn of its loop, and what falls with it.
+-- `Player::go`: what holds at each turn of its loop, and what decreases at each turn.
 use Rattle.flash_session.specs.Fit.{togo}
 use Rattle.flash_session.specs.Targets.{goal_for}
 use Rattle.flash_session.specs.Whole.{Played}

@@ -1,4 +1,4 @@
--- `Player::go_on`: its clauses `turns`, `one` and `slice`, and what `judge` asks for.
+-- `Player::go_on`: its clauses `turns`, `one` and `slice`, and what `judge` requires.
 use Rattle.std.proofs.Common.{refl, arith}
 use Rattle.std.proofs.lemmas.Grind.{common_steps}
 use Rattle.flash_session.proofs.TakesLemmas.{judges_so, slice_more, slice_ended}

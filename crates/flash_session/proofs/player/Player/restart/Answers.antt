@@ -1,4 +1,4 @@
--- `Player::restart`: its contract, `Restarts`, and what `turn_to` asks for.
+-- `Player::restart`: its contract, `Restarts`, and what `turn_to` requires.
 use Rattle.flash_session.proofs.MachineLemmas.{restarts_by, twins_kept}
 use Rattle.flash_session.proofs.player.Player.restart.Goals as goal
 

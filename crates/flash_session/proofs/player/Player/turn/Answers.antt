@@ -1,4 +1,4 @@
--- `Player::turn`: its clauses `turns`, `slice` and `one`, and what `play` asks for.
+-- `Player::turn`: its clauses `turns`, `slice` and `one`, and what `play` requires.
 use Rattle.std.proofs.Common.{◌∙◌, sym, arith}
 use Rattle.std.proofs.lemmas.Grind.{common_steps}
 use Rattle.flash_session.specs.Targets.{goal_for}

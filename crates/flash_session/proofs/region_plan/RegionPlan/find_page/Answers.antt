@@ -1,4 +1,4 @@
--- `RegionPlan::find_page`: that it keeps its contract, and that its loop keeps what it has to.
+-- `RegionPlan::find_page`: that it keeps its contract, and that its loop keeps its invariant.
 use Rattle.std.proofs.Common.{◌∙◌, length, get_or, false, sym, arith}
 use Rattle.flash_session.specs.Script.{page_at}
 use Rattle.flash_session.specs.Targets.{work_in}

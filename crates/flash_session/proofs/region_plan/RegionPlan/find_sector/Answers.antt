@@ -1,4 +1,4 @@
--- `RegionPlan::find_sector`: that it keeps its contract, and that its loop keeps what it has to.
+-- `RegionPlan::find_sector`: that it keeps its contract, and that its loop keeps its invariant.
 use Rattle.std.proofs.Common.{◌∙◌, length, get_or, false, sym, arith}
 use Rattle.flash_session.specs.Script.{sector_moves}
 use Rattle.flash_session.specs.Targets.{planned_in}

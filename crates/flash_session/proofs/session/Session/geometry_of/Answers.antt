@@ -1,4 +1,4 @@
--- `Session::geometry_of`: that it keeps its contract, and what `region` asks for.
+-- `Session::geometry_of`: that it keeps its contract, and what `region` requires.
 use Rattle.flash_session.proofs.LentLemmas.{region_inside, layout_from}
 use Rattle.flash_session.proofs.session.Session.geometry_of.Goals as goal
 

@@ -1,4 +1,4 @@
--- `Session::into_parts`: its clause `player`, and what `into_player` asks for.
+-- `Session::into_parts`: its clause `player`, and what `into_player` requires.
 use Rattle.std.proofs.Common.{Option, IfSome, sym, subst}
 use Rattle.flash_session.specs.declared.ready.Survey.{Survey}
 use Rattle.flash_session.specs.Parts.{IsPlayerOf}

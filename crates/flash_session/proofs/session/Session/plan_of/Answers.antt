@@ -1,4 +1,4 @@
--- `Session::plan_of`: that it keeps its contract, and what `region` asks for.
+-- `Session::plan_of`: that it keeps its contract, and what `region` requires.
 use Rattle.flash_session.proofs.LentLemmas.{region_inside, plan_from}
 use Rattle.flash_session.proofs.session.Session.plan_of.Goals as goal
 

@@ -1,4 +1,4 @@
--- `Session::survey`: its clauses `ok`, `made`, `err`, `job`, `pairs`, `store` and `device`, and what `survey_for` asks for.
+-- `Session::survey`: its clauses `ok`, `made`, `err`, `job`, `pairs`, `store` and `device`, and what `survey_for` requires.
 use Rattle.std.proofs.Common.{◌∙◌, Option, IsSome, IsSomeAnd, refl, sym, ap, subst, arith}
 use Rattle.std.proofs.lemmas.Grind.{common_steps}
 use Rattle.std.proofs.lemmas.Result.{err_from_is_err_and}

@@ -1,4 +1,4 @@
--- `sector_count`: what `count_sectors` asks for.
+-- `sector_count`: what `count_sectors` requires.
 use Rattle.std.proofs.Common.{arith}
 use Rattle.std.proofs.lemmas.Grind.{common_steps}
 use Rattle.flm_descriptor.proofs.algorithm.Algorithm.sector_count.Goals as goal

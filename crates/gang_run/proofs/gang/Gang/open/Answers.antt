@@ -1,4 +1,4 @@
--- `Gang::open`: its contract, that its loop keeps what it has to, that an index fits, and what `new` asks for.
+-- `Gang::open`: its contract, that its loop keeps its invariant, that an index fits, and what `new` requires.
 use Rattle.std.proofs.lemmas.Grind.{common_steps}
 use Rattle.std.proofs.Common.{◌≤◌, ◌^◌, ◌∙◌, ℕ, List, get_or, sym, ap, subst, arith}
 use Rattle.std.proofs.lemmas.Result.{err_from_is_err_and}

@@ -1,4 +1,4 @@
--- `Gang::round`: its clauses `nearer` and `gives`, and that its loop keeps what it has to.
+-- `Gang::round`: its clauses `nearer` and `gives`, and that its loop keeps its invariant.
 use Rattle.std.proofs.lemmas.Grind.{common_steps}
 use Rattle.std.proofs.Common.{refl, arith}
 use Rattle.gang_run.proofs.GangLemmas.{round_here, round_on, round_then}

@@ -1,4 +1,4 @@
--- `Gang::run`: its clauses `gives`, `since`, `kept` and `count`, that its loop keeps what it has to, and that it ends.
+-- `Gang::run`: its clauses `gives`, `since`, `kept` and `count`, that its loop keeps its invariant, and that it ends.
 use Rattle.std.proofs.lemmas.Grind.{common_steps}
 use Rattle.std.proofs.Common.{refl, arith}
 use Rattle.gang_run.proofs.GangLemmas.{playing_here, round_more}

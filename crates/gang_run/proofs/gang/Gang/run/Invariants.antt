@@ -1,4 +1,4 @@
--- `Gang::run`: what holds at each turn of its loop, and what falls with it.
+-- `Gang::run`: what holds at each turn of its loop, and what decreases at each turn.
 use Rattle.gang_run.specs.Gangs.{gang_togo, GivesRounds, Playing}
 use Rattle.gang_run.proofs.gang.Gang.run.Given as goal
 

@@ -1,4 +1,4 @@
--- `Gang::turns`: its clause `gives`, that its loop keeps what it has to, and what `turn` asks for.
+-- `Gang::turns`: its clause `gives`, that its loop keeps its invariant, and what `turn` requires.
 use Rattle.std.proofs.lemmas.Grind.{common_steps}
 use Rattle.std.proofs.Common.{List, refl, subst, arith}
 use Rattle.std.proofs.lemmas.List.{take_all}

@@ -1,4 +1,4 @@
--- `page`: what `page_range` asks for.
+-- `page`: what `page_range` requires.
 use Rattle.std.proofs.Common.{arith}
 use Rattle.std.proofs.lemmas.Grind.{common_steps}
 use Rattle.page_geometry.proofs.geometry.Geometry.page.Goals as goal

@@ -1,4 +1,4 @@
--- `page_at`: that it keeps its contract, and what `page_number` asks for.
+-- `page_at`: that it keeps its contract, and what `page_number` requires.
 use Rattle.std.proofs.Common.{arith}
 use Rattle.std.proofs.lemmas.Grind.{common_steps}
 use Rattle.page_geometry.proofs.geometry.Geometry.page_at.Goals as goal

@@ -1,4 +1,4 @@
--- `pages_of`: that it keeps its contract, and what `sector_pages` asks for.
+-- `pages_of`: that it keeps its contract, and what `sector_pages` requires.
 use Rattle.std.proofs.Common.{arith}
 use Rattle.std.proofs.lemmas.Grind.{common_steps}
 use Rattle.page_geometry.proofs.geometry.Geometry.pages_of.Goals as goal

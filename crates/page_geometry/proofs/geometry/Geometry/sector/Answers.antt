@@ -1,4 +1,4 @@
--- `sector`: what `sector_range` asks for.
+-- `sector`: what `sector_range` requires.
 use Rattle.std.proofs.Common.{arith}
 use Rattle.std.proofs.lemmas.Grind.{common_steps}
 use Rattle.page_geometry.proofs.geometry.Geometry.sector.Goals as goal

@@ -1,4 +1,4 @@
--- `sector_at`: that it keeps its contract, and what `sector_number` asks for.
+-- `sector_at`: that it keeps its contract, and what `sector_number` requires.
 use Rattle.std.proofs.Common.{arith}
 use Rattle.std.proofs.lemmas.Grind.{common_steps}
 use Rattle.page_geometry.proofs.geometry.Geometry.sector_at.Goals as goal

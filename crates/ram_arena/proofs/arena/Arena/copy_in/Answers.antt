@@ -1,4 +1,4 @@
--- `Arena::copy_in`: that it keeps its contract, that its loop keeps what it has to, and what `index` and `store8` ask for.
+-- `Arena::copy_in`: that it keeps its contract, that its loop keeps its invariant, and what `index` and `store8` require.
 use Rattle.std.proofs.lemmas.Grind.{common_steps}
 use Rattle.std.proofs.Common.{◌≡◌, ◌+◌, ℕ, List, [], length, get_or, set, sym, ap, ◌∙◌, arith}
 use Rattle.ram_arena.proofs.Windows.{is_there, ends}

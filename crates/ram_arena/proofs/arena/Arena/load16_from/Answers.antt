@@ -1,4 +1,4 @@
--- `Arena::load16_from`: its clause `value`, what `load16` asks for, and that no number overflows.
+-- `Arena::load16_from`: its clause `value`, what `load16` requires, and that no number overflows.
 use Rattle.std.proofs.Common.{◌∙◌, arith}
 use Rattle.ram_arena.proofs.Windows.{ends, is_from, load16_at}
 use Rattle.ram_arena.proofs.arena.Arena.load16_from.Goals as goal

@@ -1,4 +1,4 @@
--- `Arena::load32_from`: its clause `value`, what `load32` asks for, and that no number overflows.
+-- `Arena::load32_from`: its clause `value`, what `load32` requires, and that no number overflows.
 use Rattle.std.proofs.Common.{◌∙◌, arith}
 use Rattle.ram_arena.proofs.Windows.{ends, is_from, load32_at}
 use Rattle.ram_arena.proofs.arena.Arena.load32_from.Goals as goal

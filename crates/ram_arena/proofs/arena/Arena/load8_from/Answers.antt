@@ -1,4 +1,4 @@
--- `Arena::load8_from`: its clause `value`, what `load8` asks for, and that no number overflows.
+-- `Arena::load8_from`: its clause `value`, what `load8` requires, and that no number overflows.
 use Rattle.std.proofs.Common.{◌∙◌, arith}
 use Rattle.ram_arena.proofs.Windows.{ends, is_from, load8_at}
 use Rattle.ram_arena.proofs.arena.Arena.load8_from.Goals as goal

@@ -1,4 +1,4 @@
--- `Arena::new`: that it keeps its contract, that its loop keeps what it has to, what `zeroed` asks for, and that no number overflows.
+-- `Arena::new`: that it keeps its contract, that its loop keeps its invariant, what `zeroed` requires, and that no number overflows.
 use Rattle.std.proofs.lemmas.Grind.{common_steps}
 use Rattle.std.proofs.Common.{◌≡◌, ◌+◌, ℕ, suc, List, [], ◌∷◌, ◌++◌, length, get_or, take, replicate, sym, ap, subst, ◌∙◌, arith, take-suc}
 use lib.Seq.{take-length}

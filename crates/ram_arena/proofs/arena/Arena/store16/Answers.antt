@@ -1,4 +1,4 @@
--- `Arena::store16`: that it keeps its contract, what `index` and `store16` ask for, and that no number overflows.
+-- `Arena::store16`: that it keeps its contract, what `index` and `store16` require, and that no number overflows.
 use Rattle.std.proofs.Common.{arith}
 use Rattle.ram_arena.proofs.Windows.{is_there, ends, from, store16_is}
 use Rattle.ram_arena.proofs.arena.Arena.store16.Goals as goal

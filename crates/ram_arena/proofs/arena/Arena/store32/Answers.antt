@@ -1,4 +1,4 @@
--- `Arena::store32`: that it keeps its contract, what `index` and `store32` ask for, and that no number overflows.
+-- `Arena::store32`: that it keeps its contract, what `index` and `store32` require, and that no number overflows.
 use Rattle.std.proofs.Common.{arith}
 use Rattle.ram_arena.proofs.Windows.{is_there, ends, from, store32_is}
 use Rattle.ram_arena.proofs.arena.Arena.store32.Goals as goal

@@ -1,4 +1,4 @@
--- `Arena::store8`: that it keeps its contract, what `index` and `store8` ask for, and that no number overflows.
+-- `Arena::store8`: that it keeps its contract, what `index` and `store8` require, and that no number overflows.
 use Rattle.std.proofs.Common.{arith}
 use Rattle.ram_arena.proofs.Windows.{is_there, ends, from, store8_is}
 use Rattle.ram_arena.proofs.arena.Arena.store8.Goals as goal

@@ -1,4 +1,4 @@
--- `Bytes::load16`: its clause `value`, and what `load16` asks for.
+-- `Bytes::load16`: its clause `value`, and what `load16` requires.
 use Rattle.std.proofs.Common.{ℕ, List, ap, ◌∙◌, arith}
 use Rattle.std.proofs.lemmas.Grind.{common_steps}
 use Rattle.ram_arena.specs.Words.{word16}

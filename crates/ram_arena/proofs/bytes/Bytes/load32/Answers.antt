@@ -1,4 +1,4 @@
--- `Bytes::load32`: what `load32` asks for.
+-- `Bytes::load32`: what `load32` requires.
 use Rattle.std.proofs.Common.{arith}
 use Rattle.std.proofs.lemmas.Grind.{common_steps}
 use Rattle.ram_arena.proofs.bytes.Bytes.load32.Goals as goal

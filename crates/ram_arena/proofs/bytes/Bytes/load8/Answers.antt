@@ -1,4 +1,4 @@
--- `Bytes::load8`: its clause `value`, and what `load8` asks for.
+-- `Bytes::load8`: its clause `value`, and what `load8` requires.
 use Rattle.std.proofs.Common.{ℕ, List, slice_index, ap, ◌∙◌, arith}
 use Rattle.std.proofs.lemmas.Grind.{common_steps}
 use Rattle.ram_arena.proofs.bytes.Bytes.load8.Goals as goal

@@ -1,4 +1,4 @@
--- `Bytes::store16`: that it keeps its contract, what `store16` asks for, and that its result is as its type asks.
+-- `Bytes::store16`: that it keeps its contract, what `store16` requires, and that its result meets the clauses of its type.
 use Rattle.std.proofs.lemmas.Grind.{common_steps}
 use Rattle.std.proofs.Common.{ℕ, ◌+◌, ◌/◌, ◌%◌, List, sym, ap, ◌∙◌, arith}
 use Rattle.ram_arena.specs.Words.{with16}

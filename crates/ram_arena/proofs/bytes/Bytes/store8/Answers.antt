@@ -1,4 +1,4 @@
--- `Bytes::store8`: that it keeps its contract, what `store8` asks for, and that its result is as its type asks.
+-- `Bytes::store8`: that it keeps its contract, what `store8` requires, and that its result meets the clauses of its type.
 use Rattle.std.proofs.lemmas.Grind.{common_steps}
 use Rattle.std.proofs.Common.{ℕ, List, set, sym, ap, ◌∙◌, arith}
 use Rattle.ram_arena.proofs.Slots.{start, on, by_name}

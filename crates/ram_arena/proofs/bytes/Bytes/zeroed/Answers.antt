@@ -1,4 +1,4 @@
--- `Bytes::zeroed`: that it keeps its contract, that its loop keeps what it has to, what `store8` asks for, and that its result is as its type asks.
+-- `Bytes::zeroed`: that it keeps its contract, that its loop keeps its invariant, what `store8` requires, and that its result meets the clauses of its type.
 use Rattle.std.proofs.Common.{◌≡◌, ◌-◌, ℕ, List, Option, Some, length, set, sym, ap, subst, ◌∙◌, arith}
 use Rattle.ram_arena.specs.Slots.{somes, IsFull}
 use Rattle.ram_arena.proofs.Slots.{zeros_to, zeros_on, zeros_length, zeros_somes, zeros_full, zeros_end}

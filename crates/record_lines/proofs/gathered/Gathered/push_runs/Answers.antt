@@ -1,4 +1,4 @@
--- `Gathered::push_runs`: that its loop keeps what it has to.
+-- `Gathered::push_runs`: that its loop keeps its invariant.
 use Rattle.std.proofs.Common.{◌<◌, length, arith}
 use Rattle.record_lines.proofs.Stores.{pushed_more}
 use Rattle.record_lines.proofs.gathered.Gathered.push_runs.Goals as goal

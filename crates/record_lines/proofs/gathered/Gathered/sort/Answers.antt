@@ -1,4 +1,4 @@
--- `Gathered::sort`: its contract, `IsPermutation`, and that its result is as its type asks.
+-- `Gathered::sort`: its contract, `IsPermutation`, and that its result meets the clauses of its type.
 use Rattle.std.proofs.lemmas.List.Sorted.{All-permutation, IsPermutation-map}
 use Rattle.record_lines.specs.Gathered.{run_of, IsInside}
 use Rattle.record_lines.proofs.gathered.Gathered.sort.Goals as goal

@@ -1,4 +1,4 @@
--- `drive`: what `give` asks for, and its clause.
+-- `drive`: what `give` requires, and its clause.
 use Rattle.std.proofs.Common.{arith}
 use Rattle.std.proofs.lemmas.Grind.{common_steps}
 use Rattle.session_vectors.proofs.gang.gangs.drive.Goals as goal

@@ -1,4 +1,4 @@
--- `play`: that its loop keeps what it has to.
+-- `play`: that its loop keeps its invariant.
 use Rattle.std.proofs.Common.{◌∙◌, refl, sym}
 use Rattle.session_vectors.proofs.gang.gangs.play.Goals as goal
 

@@ -1,4 +1,4 @@
--- `play_drawn`: that its loop keeps what it has to, and what `turns` asks for.
+-- `play_drawn`: that its loop keeps its invariant, and what `turns` requires.
 use Rattle.std.proofs.lemmas.Grind.{common_steps}
 use Rattle.std.proofs.Common.{◌∙◌, refl, sym, arith}
 use Rattle.session_vectors.proofs.gang.gangs.play_drawn.Goals as goal

@@ -1,4 +1,4 @@
--- `busy`: what `cells_open` asks for.
+-- `busy`: what `cells_open` requires.
 use Rattle.std.proofs.Common.{arith}
 use Rattle.std.proofs.lemmas.Grind.{common_steps}
 use Rattle.session_vectors.proofs.job.benches.busy.Goals as goal

@@ -1,4 +1,4 @@
--- `begin_job`: what `close` asks for.
+-- `begin_job`: what `close` requires.
 use Rattle.std.proofs.Common.{arith}
 use Rattle.std.proofs.lemmas.Grind.{common_steps}
 use Rattle.session_vectors.proofs.job.stops.begin_job.Goals as goal

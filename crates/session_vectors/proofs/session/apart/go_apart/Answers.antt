@@ -1,4 +1,4 @@
--- `go_apart`: what `put_apart` asks for.
+-- `go_apart`: what `put_apart` requires.
 use Rattle.std.proofs.Common.{◌∙◌, ℕ, List, length, ap, sym}
 use Rattle.session_vectors.proofs.session.apart.go_apart.Goals as goal
 

@@ -1,4 +1,4 @@
--- `carry`: what `go_on` asks for.
+-- `carry`: what `go_on` requires.
 use Rattle.std.proofs.Common.{ℕ, List, sym, subst}
 use Rattle.bench_model.specs.History.{LeftOnly}
 use Rattle.bench_model.specs.State.{file_half}

@@ -1,4 +1,4 @@
--- `carry_apart`: what `go_over` asks for.
+-- `carry_apart`: what `go_over` requires.
 use Rattle.std.proofs.Common.{ℕ, List, sym, subst}
 use Rattle.job_text.specs.Stands.{StandsFor}
 use Rattle.flash_session.specs.Sessions.{job_in}

@@ -1,4 +1,4 @@
--- `finish`: what `close` asks for.
+-- `finish`: what `close` requires.
 use Rattle.std.proofs.lemmas.Grind.{common_steps}
 use Rattle.std.proofs.Common.{◌≡◌, ◌∷◌, ℕ, List, drop, Option, IsSome, refl, sym, subst, arith}
 use Rattle.bench_model.specs.History.{LeftOnly}

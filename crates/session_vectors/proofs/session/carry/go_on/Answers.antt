@@ -1,4 +1,4 @@
--- `go_on`: what `finish` asks for.
+-- `go_on`: what `finish` requires.
 use Rattle.std.proofs.lemmas.Grind.{common_steps}
 use Rattle.std.proofs.Common.{ℕ, List, sym, subst, arith}
 use Rattle.bench_model.specs.History.{LeftOnly}

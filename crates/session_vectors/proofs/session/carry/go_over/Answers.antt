@@ -1,4 +1,4 @@
--- `go_over`: what `finish` asks for.
+-- `go_over`: what `finish` requires.
 use Rattle.std.proofs.lemmas.Grind.{common_steps}
 use Rattle.std.proofs.Common.{sym, subst, arith}
 use Rattle.job_text.specs.Stands.{StandsFor}

@@ -1,4 +1,4 @@
--- `Target::new`: that its result is as its type asks.
+-- `Target::new`: that its result meets the clauses of its type.
 use Rattle.std.proofs.Common.{arith}
 use Rattle.std.proofs.lemmas.Grind.{common_steps}
 use Rattle.target_core.proofs.target.Target.new.Goals as goal

@@ -1,4 +1,4 @@
--- `feed_all`: what holds at each turn of its loop, and what falls with it.
+-- `feed_all`: what holds at each turn of its loop, and what decreases at each turn.
 use Rattle.std.proofs.Common.{◌≡◌, ◌≤◌, ◌-◌, length}
 use Rattle.erase_planner.specs.Marks.{Covers}
 use Rattle.target_vectors.proofs.plans.speed.feed_all.Given as goal

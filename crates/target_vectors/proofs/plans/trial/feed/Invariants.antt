@@ -1,4 +1,4 @@
--- `feed`: what holds at each turn of its loop, and what falls with it.
+-- `feed`: what holds at each turn of its loop, and what decreases at each turn.
 use Rattle.std.proofs.Common.{◌≡◌, ◌≤◌, ◌-◌, length}
 use Rattle.erase_planner.specs.Marks.{Covers}
 use Rattle.target_vectors.proofs.plans.trial.feed.Given as goal

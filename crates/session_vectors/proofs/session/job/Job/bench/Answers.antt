@@ -1,4 +1,4 @@
--- `bench`: what `new` asks for, and that its slice has an end.
+-- `bench`: what `new` requires, and that its slice has an end.
 use Rattle.std.proofs.Common.{arith}
 use Rattle.std.proofs.lemmas.Grind.{common_steps}
 use Rattle.session_vectors.proofs.session.job.Job.bench.Goals as goal

@@ -1,4 +1,4 @@
--- `Trial::new`: that its result is as its type asks.
+-- `Trial::new`: that its result meets the clauses of its type.
 use Rattle.std.proofs.Common.{ℕ, List, length, ap, sym, ◌∙◌, arith}
 use Rattle.std.proofs.lemmas.List.{length-replicate}
 use Rattle.bench_model.specs.Shown.{Memory}

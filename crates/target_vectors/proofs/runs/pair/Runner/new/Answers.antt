@@ -1,4 +1,4 @@
--- `Runner::new`: that its result is as its type asks.
+-- `Runner::new`: that its result meets the clauses of its type.
 use Rattle.std.proofs.Common.{ap, length, arith}
 use Rattle.bench_model.specs.Shown.{Memory}
 use Rattle.target_core.proofs.UnitLemmas.{fresh_agrees}
