@@ -69,18 +69,18 @@ row_next at from count bytes less is =
 
 -- The lines of rows.
 
-rows-append : (form : RowForm) (xs ys : List Run) → rows_lines form (xs ++ ys) ≡ rows_lines form xs ++ rows_lines (form_behind form xs) ys
+pub rows-append : (form : RowForm) (xs ys : List Run) → rows_lines form (xs ++ ys) ≡ rows_lines form xs ++ rows_lines (form_behind form xs) ys
 rows-append form [] ys = refl
 rows-append form (x ∷ xs) ys =
     ap (λ (l : List (List ℕ)). row_lines form x ++ l) (rows-append (behind form x) xs ys)
     ∙ sym (append_assoc (row_lines form x) (rows_lines (behind form x) xs) (rows_lines (form_behind (behind form x) xs) ys))
 
-text-append : (form : RowForm) (xs ys : List Run) → text_of (rows_lines form (xs ++ ys)) ≡ text_of (rows_lines form xs) ++
+pub text-append : (form : RowForm) (xs ys : List Run) → text_of (rows_lines form (xs ++ ys)) ≡ text_of (rows_lines form xs) ++
     text_of (rows_lines (form_behind form xs) ys)
 text-append form xs ys = ap text_of (rows-append form xs ys) ∙ flat_map-append (λ (line : List ℕ). line ++ 10 ∷ []) (rows_lines form xs)
     (rows_lines (form_behind form xs) ys)
 
-behind-append : (form : RowForm) (xs ys : List Run) → form_behind form (xs ++ ys) ≡ form_behind (form_behind form xs) ys
+pub behind-append : (form : RowForm) (xs ys : List Run) → form_behind form (xs ++ ys) ≡ form_behind (form_behind form xs) ys
 behind-append form [] ys = refl
 behind-append form (x ∷ xs) ys = behind-append (behind form x) xs ys
 

@@ -12,9 +12,10 @@ mod uf2;
 
 pub use any::read_any;
 pub use fault::{AnyFault, Uf2Fault};
+pub use form::RowForm;
 pub use law::{
     files_of_any_form_have_one_image, files_of_texts_are_their_maps, texts_are_read_back,
     uf2_files_have_one_image, unions_have_the_bytes_of_files,
 };
-pub use text::{write_hex, write_srec};
+pub use text::{write_hex, write_run, write_srec};
 pub use uf2::read_uf2;

@@ -37,6 +37,23 @@ pub fn write_srec<O: Sink>(map: &ByteMap, out: &mut O) -> Result<(), OutputFault
     text.put(out)
 }
 
+/// Puts the records of one run of an image, in the rows in which the text of the whole image has them. `form` says which rows were put before,
+/// and then which come after. A fault may leave a beginning of the records. It takes no memory.
+pub fn write_run<O: Sink>(
+    out: &mut O,
+    form: &mut RowForm,
+    at: u32,
+    bytes: &[u8],
+) -> Result<(), OutputFault>
+    requires { at + length bytes.now ≤ 2 ^ 32 }
+    ensures puts { Puts O.tells (O.state out.old) (O.state out.new) (text_of (rows_lines form.old (run_rows at bytes.now))) result }
+    ensures known { OnOk result (form.new ≡ form_behind form.old (run_rows at bytes.now)) }
+{
+    let mut text = Gathered::new();
+    gather_run(out, &mut text, form, at, bytes)?;
+    text.put(out)
+}
+
 /// Gathers the whole text of an image as Intel HEX.
 #[tactic(auto, unfolding(crate::specs::Texts::hex_lines))]
 fn gather_hex<O: Sink>(out: &mut O, text: &mut Gathered, map: &ByteMap) -> Result<(), OutputFault>
