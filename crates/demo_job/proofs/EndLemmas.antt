@@ -1,5 +1,5 @@
 -- The rules for the answers of a demonstration, as the top call uses them for `demo`.
-use Rattle.std.proofs.Common.{◌≡◌, sym, subst, refl, arith, inl, inr, ◌⊎◌, ◌<◌, ◌≤◌, ⊎_elim, ℕ, List, [], ◌^◌, ◌-◌}
+use Rattle.std.proofs.Common.{◌≡◌, sym, subst, refl, arith, inl, inr, ◌<◌, ◌≤◌, ⊎_elim, ℕ, List, [], ◌^◌, ◌-◌}
 use Rattle.faults.specs.Counts.{Rose}
 use Rattle.report_text.specs.Refusal.{out_of_memory, no_job, not_a_job, damaged, cells_differ, store_fault, device_fault, output_fault, call_failed, mismatch}
 use Rattle.command_files.specs.Inputs.{InputsCall, TakesNothing}

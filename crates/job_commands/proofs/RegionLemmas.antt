@@ -1,5 +1,5 @@
 -- What a command's files want, in terms of the parts of a job.
-use Rattle.std.proofs.Common.{◌≡◌, ◌≢◌, ◌⊎◌, ◌<◌, ◌≤◌, ◌+◌, ◌-◌, ◌^◌, ◌||◌, ◌∙◌, ⊎_elim, inl, inr, sym, ap, subst, refl, arith, ℕ, suc, Bool, IsTrue, IsSome}
+use Rattle.std.proofs.Common.{◌≡◌, ◌≢◌, ◌⊎◌, ◌<◌, ◌≤◌, ◌-◌, ◌^◌, ◌||◌, ◌∙◌, ⊎_elim, inl, inr, sym, ap, subst, refl, arith, ℕ, suc, Bool, IsTrue, IsSome}
 use Rattle.std.proofs.Common.{All, List, [], ◌∷◌, ◌++◌, length, take, Option, option_to_list, option_copied, Some, None}
 use Rattle.std.specs.List.{list_any}
 use Rattle.std.specs.Option.{ForSome}
