@@ -1,5 +1,5 @@
 -- What the answers of a gang say of its status and of each bench.
-use Rattle.std.proofs.Common.{◌≡◌, ⊎_elim, inl, inr, ◌<◌, ◌∙◌, refl, sym, ap, subst, arith, ℕ, zero, suc, false, IsTrue, List, [], ◌∷◌, length, get_or, None}
+use Rattle.std.proofs.Common.{◌≡◌, ⊎_elim, inl, inr, ◌<◌, ◌∙◌, refl, sym, ap, subst, arith, ℕ, zero, suc, false, IsTrue, List, [], ◌∷◌, length, get_or, Option, Some, None}
 use Rattle.std.proofs.lemmas.List.{length-map}
 use Rattle.faults.specs.Counts.{Rose}
 use Rattle.bench_model.specs.declared.bench.Bench.{Ghosts}
@@ -40,10 +40,11 @@ use Rattle.gang_run.specs.Gangs.{AreReady}
 use Rattle.gang_run.specs.Opening.{AreOpened}
 use Rattle.gang_run.specs.Slots.{OpensWithMemory, HasMemory}
 use Rattle.flash_session.specs.Turns.{target_fault}
-use Rattle.gang_commands.specs.Ends.{AllFinished, KeepsOn, AllKeep, IsServed, AllServed, NoneRose, NoneRoseIn}
+use Rattle.gang_commands.specs.Ends.{AllEndOn, AllFinished, KeepsOn, AllKeep, IsServed, AllServed, NoneRose, NoneRoseIn}
 use Rattle.gang_commands.specs.Gangs.{HasNoUsage, HasNoMemory, HaveEnded, Answers}
 use Rattle.gang_commands.specs.Lines.{Outcome, reason_in, status_before, status_in}
-use Rattle.gang_commands.specs.Puts.{outcome_of, outcomes, Runs}
+use Rattle.gang_commands.specs.Puts.{outcome_of, HasEndedUpto, Runs}
+use Rattle.gang_commands.proofs.OutcomeLemmas.{outcomes, outcomes_are}
 use Rattle.gang_commands.specs.Words.{DoFit}
 use Rattle.gang_commands.specs.Works.{Carries, Comes, IsSound}
 use Rattle.gang_commands.proofs.CarryLemmas.{all_end}
@@ -170,9 +171,12 @@ pub have_ended : {B : Type 0} (G : Ghosts B) (benches begun after : List B) (ope
     → AreOpened G benches opened begun → AreReady G opened begun
     → Runs G opened begun after out err status → HaveEnded G benches after out err status
 have_ended G benches begun after opened out err status long are ready runs = record {
-  ends = outcomes runs.now;
-  each = length-map runs.now.slots.items outcome_of ∙ sym runs.places ∙ runs.count ∙ long;
-  ended = all_end G benches begun after opened runs.now long runs.count runs.places are ready runs.kept runs.since runs.is_gang runs.ended;
+  ends = runs.ends;
+  each = sym (length-map runs.ends (λ (o : Outcome). Some o)) ∙ sym (ap (λ (l : List (Option Outcome)). length l) runs.outcomes)
+      ∙ length-map runs.now.slots.items outcome_of ∙ sym runs.places ∙ runs.count ∙ long;
+  ended = subst (λ (ends : List Outcome). AllEndOn G benches ends after)
+      (sym (outcomes_are runs.now runs.ends (subst (λ (n : ℕ). HasEndedUpto runs.now n) (sym runs.count ∙ runs.places) runs.ended) runs.outcomes))
+      (all_end G benches begun after opened runs.now long runs.count runs.places are ready runs.kept runs.since runs.is_gang runs.ended);
   says = runs.says;
 }
 

@@ -52,7 +52,8 @@ use Rattle.gang_run.proofs.GangLemmas.{alone_of}
 use Rattle.gang_commands.specs.Lines.{Outcome}
 use Rattle.gang_commands.specs.Works.{Carries, Comes, ComesBy, IsSound}
 use Rattle.gang_commands.specs.Ends.{EndsOn, AllEndOn}
-use Rattle.gang_commands.specs.Puts.{end_of, outcome_of, outcomes, HasEndedUpto}
+use Rattle.gang_commands.specs.Puts.{HasEndedUpto}
+use Rattle.gang_commands.proofs.OutcomeLemmas.{end_or, outcome_at, outcomes}
 use Rattle.gang_commands.proofs.EndLemmas.{of_job, refused_ends}
 use Rattle.command_files.proofs.PlaceLemmas.{has_address}
 
@@ -151,9 +152,9 @@ module _ {B : Type 0} (G : Ghosts B) (s : BenchState) (begun : B) (t : BenchStat
     abbrev its : Outcome
     its = record { end = alone.end; regions = Some j.board.regions }
 
-    its_outcome : outcome_of new ≡ its
-    its_outcome = ap outcome_of alone.is
-        ∙ ap (λ (p : Place). carried_to (end_of p) alone.target.job) alone.place_is
+    its_outcome : outcome_at new ≡ its
+    its_outcome = ap outcome_at alone.is
+        ∙ ap (λ (p : Place). carried_to (end_or p) alone.target.job) alone.place_is
         ∙ ap (λ (k : Job). carried_to alone.end k) same_job
 
     goal_is : goal_for x.job x.player m.file ≡ goal_in j New s.file
@@ -193,11 +194,11 @@ module _ {B : Type 0} (G : Ghosts B) (s : BenchState) (begun : B) (t : BenchStat
       };
     }
 
-    carries : Carries G s (outcome_of new) t
+    carries : Carries G s (outcome_at new) t
     carries = subst (λ (o : Outcome). Carries G s o t) (sym its_outcome) its_carries
 
-    not_refused : ComesBy s (outcome_of new).end
-    not_refused = of_job s (outcome_of new).end
+    not_refused : ComesBy s (outcome_at new).end
+    not_refused = of_job s (outcome_at new).end
         (record {
           some = record {
             job = stands.text;
@@ -211,21 +212,21 @@ module _ {B : Type 0} (G : Ghosts B) (s : BenchState) (begun : B) (t : BenchStat
         })
 
   pub target_ends : TargetKept x m new t → IsSlot new → (IsTrue G.tells → (a : Stand) → SlotStands a [] (slot.Open x) arena m
-      → SlotSince a [] (slot.Open x) m new arena' t) → EndsOn G s (outcome_of new) t
+      → SlotSince a [] (slot.Open x) m new arena' t) → EndsOn G s (outcome_at new) t
   target_ends kept lawful since =
       let y : GangTarget = kept.target in
       let at : (e : TargetEnd) × (y.player.place ≡ place.Ended e) = over_place y.player.place (ap slot_turn (sym kept.is) ∙ over) in
-      let end_is : (outcome_of new).end ≡ at.0 = ap (λ (n : Slot). (outcome_of n).end) kept.is ∙ ap end_of at.1 in
+      let end_is : (outcome_at new).end ≡ at.0 = ap (λ (n : Slot). (outcome_at n).end) kept.is ∙ ap end_or at.1 in
       let by_script : IsScriptEnd at.0 = subst (λ (p : Place). EndsByScript p) at.1 (subst IsSlot kept.is lawful) in
-      let script : IsScriptEnd (outcome_of new).end = subst IsScriptEnd (sym end_is) by_script in
+      let script : IsScriptEnd (outcome_at new).end = subst IsScriptEnd (sym end_is) by_script in
       let counts : Counts (place.Ended at.0) m t = subst (λ (p : Place). Counts p m t) at.1 kept.counts in
       record {
-        sound = sound_script s.cell_count (outcome_of new).end script;
+        sound = sound_script s.cell_count (outcome_at new).end script;
         store = subst (λ (e : TargetEnd). IsCounted s.store_faults t.store_faults (is_store_fault (target_fault e))) (sym end_is)
             (subst (λ (n : ℕ). IsCounted n t.store_faults (is_store_fault (target_fault at.0))) begins.store counts.store);
         device = subst (λ (e : TargetEnd). IsCounted s.device_faults t.device_faults (is_device_fault (target_fault e))) (sym end_is)
             (subst (λ (n : ℕ). IsCounted n t.device_faults (is_device_fault (target_fault at.0))) begins.device counts.device);
-        comes = λ told. comes_script G s (outcome_of new) t (outcome_of new).end script (carries told (since told first_stand stands_so));
+        comes = λ told. comes_script G s (outcome_at new) t (outcome_at new).end script (carries told (since told first_stand stands_so));
         comes_by = λ told. not_refused told (since told first_stand stands_so);
       }
 
@@ -235,10 +236,10 @@ module _ {B : Type 0} (G : Ghosts B) where
   slot_ends : (old : Slot) (arena arena' : List (List ℕ)) (s : BenchState) (begun bench : B) (new : Slot) → IsOpened G.tells old arena s (G.state begun)
       → IsReady G.tells old arena (G.state begun) → SlotKept G old begun new bench → IsSlot new
       → slot_turn new ≡ turn.Ended → (IsTrue G.tells → (a : Stand) → SlotStands a [] old arena (G.state begun)
-      → SlotSince a [] old (G.state begun) new arena' (G.state bench)) → EndsOn G s (outcome_of new) (G.state bench)
+      → SlotSince a [] old (G.state begun) new arena' (G.state bench)) → EndsOn G s (outcome_at new) (G.state bench)
   slot_ends (slot.Refused e) arena arena' s begun bench new opened ready kept lawful over since =
-      subst (λ (b : B). EndsOn G s (outcome_of new) (G.state b)) (sym kept.1)
-      (subst (λ (n : Slot). EndsOn G s (outcome_of n) (G.state begun)) (sym kept.0) (refused_ends G s (G.state begun) e opened.0 opened.1))
+      subst (λ (b : B). EndsOn G s (outcome_at new) (G.state b)) (sym kept.1)
+      (subst (λ (n : Slot). EndsOn G s (outcome_at n) (G.state begun)) (sym kept.0) (refused_ends G s (G.state begun) e opened.0 opened.1))
   slot_ends (slot.Open x) arena arena' s begun bench new opened ready kept lawful over since =
       let going : IsUnended x.player.place = subst (λ (p : Place). IsUnended p) (sym opened.1.place) tt in
       target_ends G s begun (G.state bench) arena arena' x new opened.1 opened.0 ready over (kept going) lawful since
@@ -251,7 +252,7 @@ module _ {B : Type 0} (G : Ghosts B) where
       let inside : i < length begun = omega (arith, less, long) in
       let within : i < length now.slots.items = omega (arith, inside, count, places) in
       subst (λ (o : Outcome). EndsOn G (G.state (get_or benches i d)) o (G.state (get_or after i d)))
-      (sym (get_or-map outcome_of now.slots.items i (slot.Refused (ended.Survey survey.StoreFault)) x within))
+      (sym (get_or-map outcome_at now.slots.items i (slot.Refused (ended.Survey survey.StoreFault)) x within))
       (slot_ends (slot_at opened i) opened.arena now.arena (G.state (get_or benches i d)) (get_or begun i d) (get_or after i d) (slot_at now i) (are i d less)
       (ready i d inside) (kept i d inside) (gang.slots i) (over i inside)
       (λ told a stood. since i d a [] inside told stood))

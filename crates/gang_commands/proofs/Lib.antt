@@ -1,4 +1,5 @@
 -- Lines, refusals and ends of the targets of a gang, and what its status says of each bench.
+mod OutcomeLemmas
 mod LineLemmas
 mod RefusalLemmas
 pub mod WordLemmas

@@ -17,7 +17,8 @@ use Rattle.gang_run.specs.Gangs.{slot_at}
 use Rattle.command_files.specs.Call.{SinkCall, sink_call}
 use Rattle.command_files.specs.Said.{TookPart}
 use Rattle.gang_commands.specs.Lines.{Outcome, reason, lines_from, lines_of, status_before, status_in}
-use Rattle.gang_commands.specs.Puts.{status_behind, PutsEnds, outcome_of, outcomes}
+use Rattle.gang_commands.specs.Puts.{status_behind, PutsEnds}
+use Rattle.gang_commands.proofs.OutcomeLemmas.{outcome_at, outcomes}
 
 -- ---- the text
 
@@ -101,12 +102,12 @@ puts_ended out ends (Ok status) failed part = absurd (cc failed)
 puts_ended out ends (Err e) failed part = part
 
 -- the refusal of a target, at its place among the outcomes
-pub in_place : (g : Gang) (i : ℕ) (d : Outcome) (said : Option Refusal) → i < length g.slots.items → said ≡ reason (outcome_of (slot_at g i))
+pub in_place : (g : Gang) (i : ℕ) (d : Outcome) (said : Option Refusal) → i < length g.slots.items → said ≡ reason (outcome_at (slot_at g i))
     → said ≡ reason (get_or (outcomes g) i d)
-in_place g i d said less is = is ∙ ap reason (sym (get_or-map outcome_of g.slots.items i (slot.Refused (ended.Survey survey.StoreFault)) d less))
+in_place g i d said less is = is ∙ ap reason (sym (get_or-map outcome_at g.slots.items i (slot.Refused (ended.Survey survey.StoreFault)) d less))
 
 pub within : (g : Gang) (i : ℕ) → i < length g.slots.items → i < length (outcomes g)
-within g i less = omega (arith, less, length-map g.slots.items outcome_of)
+within g i less = omega (arith, less, length-map g.slots.items outcome_at)
 
 pub any_outcome : Outcome
 any_outcome = record { end = ended.StoreFault; regions = None }

@@ -11,20 +11,21 @@ use Rattle.flash_session.specs.Turns.{turn_of}
 use Rattle.gang_run.specs.declared.slot.Slot.{Slot}
 use Rattle.gang_run.specs.declared.slot.Slot.TheVariants as slot
 use Rattle.gang_run.specs.Slots.{slot_turn, IsSlotEnd, IsSlotJob}
-use Rattle.gang_commands.specs.Puts.{regions_of, end_of, outcome_of}
+use Rattle.gang_commands.specs.Puts.{regions_of}
+use Rattle.gang_commands.proofs.OutcomeLemmas.{end_or, outcome_at}
 
-end_at : (p : Place) (e : Bor TargetEnd) → IsEndAt p (Some e) → e.now ≡ end_of p
+end_at : (p : Place) (e : Bor TargetEnd) → IsEndAt p (Some e) → e.now ≡ end_or p
 end_at (place.At c) e is = absurd is
 end_at (place.In call len left next) e is = absurd is
 end_at (place.Comparing at) e is = absurd is
 end_at place.Closing e is = absurd is
 end_at (place.Ended f) e is = is
 
-pub end_is : (s : Slot) (e : Bor TargetEnd) → IsSlotEnd s (Some e) → e.now ≡ (outcome_of s).end
+pub end_is : (s : Slot) (e : Bor TargetEnd) → IsSlotEnd s (Some e) → e.now ≡ (outcome_at s).end
 end_is (slot.Refused f) e is = is
 end_is (slot.Open x) e is = end_at x.player.place e is
 
-pub regions_are : (s : Slot) (o : Option (Bor Job)) → IsSlotJob s o → regions_of o ≡ (outcome_of s).regions
+pub regions_are : (s : Slot) (o : Option (Bor Job)) → IsSlotJob s o → regions_of o ≡ (outcome_at s).regions
 regions_are (slot.Refused f) None is = refl
 regions_are (slot.Refused f) (Some j) is = absurd is
 regions_are (slot.Open x) None is = absurd is

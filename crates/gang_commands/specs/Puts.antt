@@ -25,21 +25,22 @@ use Rattle.gang_commands.specs.Lines.{Outcome, lines_of, status_in}
 abbrev pub regions_of : Option (Bor Job) → Option (List Region)
 regions_of job = option_map (λ (j : Job). j.board.regions) (option_copied job)
 
--- the end of a target; one that hasn't ended counts as one whose job file failed
-abbrev pub end_of : Place → TargetEnd
-end_of (place.At c) = ended.StoreFault
-end_of (place.In call len left next) = ended.StoreFault
-end_of (place.Comparing at) = ended.StoreFault
-end_of place.Closing = ended.StoreFault
-end_of (place.Ended e) = e
+-- how a target ended; none where it is still under way
+abbrev pub end_of : Place → Option TargetEnd
+end_of (place.At c) = None
+end_of (place.In call len left next) = None
+end_of (place.Comparing at) = None
+end_of place.Closing = None
+end_of (place.Ended e) = Some e
 
-abbrev pub outcome_of : Slot → Outcome
-outcome_of (slot.Refused e) = record { end = e; regions = None }
-outcome_of (slot.Open x) = record { end = end_of x.player.place; regions = Some x.job.board.regions }
+-- the outcome of one place of a gang; none where its target is still under way
+abbrev pub outcome_of : Slot → Option Outcome
+outcome_of (slot.Refused e) = Some (record { end = e; regions = None })
+outcome_of (slot.Open x) = option_map (λ (e : TargetEnd). record { end = e; regions = Some x.job.board.regions }) (end_of x.player.place)
 
--- the outcomes of a gang's targets, in order
-abbrev pub outcomes : Gang → List Outcome
-outcomes g = map outcome_of g.slots.items
+-- each target of a gang has ended, with these outcomes in order
+abbrev pub HaveOutcomes : Gang → List Outcome → Type 0
+HaveOutcomes g ends = map outcome_of g.slots.items ≡ map (λ (o : Outcome). Some o) ends
 
 -- each of the first `count` targets has ended
 abbrev pub HasEndedUpto : Gang → ℕ → Type 0
@@ -56,6 +57,10 @@ abbrev pub PutsEnds : SinkCall → List Outcome → Result ℕ OutputFault → T
 PutsEnds out ends (Ok status) = TookAll out (lines_of ends) × (status ≡ status_in ends)
 PutsEnds out ends (Err e) = TookPart out (lines_of ends)
 
+-- the lines of all targets of a gang, each of which has ended, were put, or `out` failed
+abbrev pub PutsTargets : SinkCall → Gang → Result ℕ OutputFault → Type 0
+PutsTargets out g r = (ends : List Outcome) × HaveOutcomes g ends × PutsEnds out ends r
+
 -- All targets of a gang had turns until they ended, and the call said their ends.
 pub record Runs {B : Type 0} (G : Ghosts B) (gang : Gang) (benches benches' : List B) (out err : SinkCall) (status : ℕ) : Type 0 where
   pub now : Gang
@@ -65,4 +70,6 @@ pub record Runs {B : Type 0} (G : Ghosts B) (gang : Gang) (benches benches' : Li
   pub places : length benches' ≡ length now.slots.items
   pub is_gang : IsGang now
   pub ended : HasEndedUpto now (length benches)
-  pub says : SaysEnds out err (outcomes now) status
+  pub ends : List Outcome
+  pub outcomes : HaveOutcomes now ends
+  pub says : SaysEnds out err ends status

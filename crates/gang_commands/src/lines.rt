@@ -2,7 +2,7 @@
 ghost use Rattle.std.specs.Prelude.{◌≡◌, ◌≤◌, length, option_map, option_copied};
 ghost use Rattle.command_files.specs.Call.{sink_call};
 ghost use Rattle.report_text.specs.Shown.{shown};
-ghost use Rattle.gang_commands.specs.Puts.{outcomes, HasEndedUpto, status_behind, PutsEnds};
+ghost use Rattle.gang_commands.specs.Puts.{HasEndedUpto, status_behind, PutsTargets};
 
 use crate::refusals::target_refusal;
 use gang_run::Gang;
@@ -32,7 +32,7 @@ pub(crate) fn put_targets<O: Sink>(
     requires count { length gang.now.slots.items ≡ count }
     requires few { count ≤ 16 }
     requires ended { HasEndedUpto gang.now count }
-    ensures { PutsEnds (sink_call O.tells (O.state out.old) (O.state out.new)) (outcomes gang.now) result }
+    ensures { PutsTargets (sink_call O.tells (O.state out.old) (O.state out.new)) gang.now result }
 {
     let mut status = 0;
     for target in 0..count {

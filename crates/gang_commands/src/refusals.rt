@@ -1,5 +1,5 @@
 //! The ends of targets, as refusals that the program reports.
-ghost use Rattle.std.specs.Prelude.{◌≡◌, ◌<◌, length, option_map};
+ghost use Rattle.std.specs.Prelude.{◌≡◌, ◌<◌, length, option_map, Some};
 ghost use Rattle.flash_session.specs.declared.target_end.Turn.TheVariants as turn;
 ghost use Rattle.gang_run.specs.Gangs.{slot_at};
 ghost use Rattle.gang_run.specs.Slots.{slot_turn};
@@ -50,7 +50,7 @@ fn end_refusal<'a>(job: Option<&Job>, end: TargetEnd) -> Option<Refusal<'a>>
 pub(crate) fn target_refusal<'a>(gang: &Gang, target: usize) -> Option<Refusal<'a>>
     requires target { target < length gang.now.slots.items }
     requires ended { slot_turn (slot_at gang.now target) ≡ turn.Ended }
-    ensures { option_map shown result ≡ reason (outcome_of (slot_at gang.now target)) }
+    ensures { option_map reason (outcome_of (slot_at gang.now target)) ≡ Some (option_map shown result) }
 {
     match gang.end(target) {
         Some(end) => end_refusal(gang.job(target), *end),

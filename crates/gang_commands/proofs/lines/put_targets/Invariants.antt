@@ -1,5 +1,5 @@
 -- `put_targets`: what holds at each turn of its loop.
-use Rattle.gang_commands.specs.Puts.{outcomes}
+use Rattle.gang_commands.proofs.OutcomeLemmas.{outcomes}
 use Rattle.gang_commands.proofs.LineLemmas.{PutsUpto}
 use Rattle.gang_commands.proofs.lines.put_targets.Given as goal
 
