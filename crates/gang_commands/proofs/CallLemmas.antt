@@ -1,5 +1,6 @@
 -- What the answers of a gang say of its status and of each bench.
-use Rattle.std.proofs.Common.{◌≡◌, ⊎_elim, inl, inr, ◌<◌, ◌∙◌, refl, sym, ap, subst, arith, ℕ, zero, suc, false, IsTrue, List, [], ◌∷◌, length, get_or, Option, Some, None}
+use Rattle.std.proofs.Common.{◌≡◌, ⊎_elim, inl, inr, ◌<◌, ◌∙◌, refl, sym, ap, subst, arith, ℕ, zero, suc, false, IsTrue, List, []}
+use Rattle.std.proofs.Common.{◌∷◌, length, get_or, Option, Some, None}
 use Rattle.std.proofs.lemmas.List.{length-map}
 use Rattle.faults.specs.Counts.{Rose}
 use Rattle.bench_model.specs.declared.bench.Bench.{Ghosts}

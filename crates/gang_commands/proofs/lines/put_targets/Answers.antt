@@ -47,5 +47,6 @@ returns g c = (
   outcomes c.args.gang.now,
   have_outcomes c.args.gang.now (λ i less. c.requires.ended i (omega (arith, less, c.requires.count))),
   puts_all g.O.Sink.tells (g.O.Sink.state c.args.out.now) (g.O.Sink.state c.loop-target.out) (outcomes c.args.gang.now) c.loop-target.target
-      c.loop-target.status (omega (arith, length-map c.args.gang.now.slots.items outcome_at, c.requires.count, c.loop-target-test.false)) c.loop-target.invariant,
+      c.loop-target.status (omega (arith, length-map c.args.gang.now.slots.items outcome_at, c.requires.count, c.loop-target-test.false))
+      c.loop-target.invariant,
 )
