@@ -7,7 +7,8 @@ of a function of that name; and a name of this project's kind (with a '_', a '::
 script or stored run. In the tables by crates of README.md and docs/CLAUSES.md it must stand in one of their crates. Links must lead to a
 file and to a heading. Each crate of crates.txt must be named in README.md or docs/TESTS.md, and in docs/ARCHITECTURE.md. What is to be
 short must be: documents, decisions, lines, and the sentences of README.md and docs/USE.md. Words that a reader stumbles over must not stand
-in prose. The last table of docs/PROMISES.md must be what tools/closure.py prints. Ends with 1 where something doesn't hold."""
+in prose, nor in the comments of a crate's src/, specs/ and proofs/, where code spans don't count; and a comment there must not begin with
+and, or, its, the same. The last table of docs/PROMISES.md must be what tools/closure.py prints. Ends with 1 where something doesn't hold."""
 import os, re, subprocess, sys
 
 ROOT = os.path.dirname(os.path.dirname(os.path.abspath(__file__)))
@@ -20,7 +21,7 @@ MOST_PROVED, MOST_DECISION, MOST_WIDE, MOST_WORDS = 40, 6, 160, 30
 STUMBLES = {
     r"behind": "after",
     r"so many": "N",
-    r"of which": "a sentence of its own",
+    r"(?<!each )of which": "a sentence of its own",
     r"told": "reported, known",
     r"gone on with": "resumed",
     r"to be had": "available",
@@ -28,6 +29,10 @@ STUMBLES = {
     r"hand(?:s|ed)? on": "pass on",
     r"want of memory": "out of memory",
 }
+STUMBLE = re.compile(r"\b(?:" + "|".join(STUMBLES) + r")\b", re.I)
+# A comment on a line of its own, and one after code.
+COMMENT, AFTER_CODE = re.compile(r"\s*(?://[/!]?|--(?: \|)?)(?:\s+(.*))?$"), re.compile(r"\s(?://|--) (.*)")
+BEGINS = re.compile(r"(?:and|or|its|the same)\b", re.I)
 # The promise in the words that are fixed.
 HEADLINE = re.compile(r"^> (?:For every algorithm file|it had when the job began|finished; and an algorithm)")
 OUTSIDE = {"toProg", "toErase"}  # fields of FlashOS.h
@@ -65,6 +70,7 @@ def clauses_in(text):
 FILES = sorted(files())
 FOLDERS = {it[:k] for it in FILES for k, end in enumerate(it) if end == "/"}
 CRATES = re.findall(r"^(\w+):", read(f"{ROOT}/crates.txt"), re.M)
+COMMENTED = {}
 WORDS, CLAUSES, FIELDS, FUNCTIONS, HEADS, WORDS_OF = set(), set(), set(), set(), {}, {it: set() for it in CRATES}
 for path in FILES:
     if path.endswith(SOURCES) or path.endswith(("/stdout", "/args", "crates.txt")):
@@ -72,6 +78,7 @@ for path in FILES:
         words = {*re.findall(r"[\w-]+", body), *re.findall(r"\w+", body)}
         WORDS.update(words)
         if path.endswith((".rt", ".antt")):
+            COMMENTED[path] = body
             WORDS_OF.get(path.split("/")[1], set()).update(words)
         if path.endswith(".rt"):
             CLAUSES.update(clauses_in(body))
@@ -210,6 +217,20 @@ def faults_of_words(line):
                 yield f"'{found[0]}': say {plain}"
 
 
+def faults_of_comments(path, text):
+    """Of a source: comments with words that a reader stumbles over, and those that begin in the middle of a sentence."""
+    goes_on = False
+    for number, line in enumerate(text.split("\n"), 1):
+        alone = COMMENT.match(line)
+        found = alone or AFTER_CODE.search(line)
+        said = prose_of(found[1] or "") if found else ""
+        if stumble := STUMBLE.search(said):
+            yield f"{path}:{number}: a comment says '{stumble[0]}'"
+        if alone and not goes_on and BEGINS.match(said):
+            yield f"{path}:{number}: a comment begins with '{said[:20]}'"
+        goes_on = bool(alone)
+
+
 def paragraphs_of(text):
     """(line number, text) of each paragraph, item and cell of a table outside the blocks."""
     number, held, in_block = 0, "", False
@@ -249,6 +270,7 @@ def faults_of_document(path):
 
 def main():
     found = [*faults_of_all(), *(it for path in DOCUMENTS for it in [*faults_of_document(path), *faults_of_sentences(path)])]
+    found += [it for path, text in COMMENTED.items() if path.split("/")[2] in ("src", "specs", "proofs") for it in faults_of_comments(path, text)]
     print("\n".join([*found, f"{len(found)} wrong"]))
     return 1 if found else 0
 
