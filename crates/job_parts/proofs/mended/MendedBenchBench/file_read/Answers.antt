@@ -1,5 +1,5 @@
 -- `file_read`: its clause `does`.
-use Rattle.std.proofs.Common.{◌≡◌, length, arith}
+use Rattle.std.proofs.Common.{arith}
 use Rattle.std.proofs.lemmas.Grind.{common_steps}
 use Rattle.job_parts.proofs.MendedLemmas.{mended_read, mended_unread, length_mended}
 use Rattle.job_parts.proofs.mended.MendedBenchBench.file_read.Goals as goal
