@@ -84,22 +84,22 @@ refused_others variant.Usage other = absurd (other refl)
 refused_others e other = refl
 
 -- a call is refused if one of its files couldn't be taken
-pub comes_untaken : (words : List (List ℕ)) (inputs : InputsCall) (asked : Asked) (r : Refusal) → Asks words asked → IsTakeFault inputs (names_in asked.files) r
-    → ComesRefused words inputs r
-comes_untaken words inputs asked refusal.out_of_memory asks is = is
-comes_untaken words inputs asked (refusal.input_fault name) asks is = record { asked = asked; asks = asks; fault = is }
-comes_untaken words inputs asked r asks is = absurd is
+pub comes_untaken : (words : List (List ℕ)) (inputs : InputsCall) (out : SinkCall) (asked : Asked) (r : Refusal) → Asks words asked
+    → IsTakeFault inputs (names_in asked.files) r → ComesRefused words inputs out r
+comes_untaken words inputs out asked refusal.out_of_memory asks is = is
+comes_untaken words inputs out asked (refusal.input_fault name) asks is = record { asked = asked; asks = asks; fault = is }
+comes_untaken words inputs out asked r asks is = absurd is
 
 -- a call with files that are refused
-pub comes_refused : (words : List (List ℕ)) (inputs : InputsCall) (asked : Asked) (r : Refusal) → Asks words asked
-    → TookFiles inputs asked.files (λ files. IsReadRefusal files r) → ComesRefused words inputs r
-comes_refused words inputs asked refusal.out_of_memory asks took = took.none_failed
-comes_refused words inputs asked refusal.usage asks took = inr (record { asked = asked; asks = asks; took = took })
-comes_refused words inputs asked (refusal.board_refused fault) asks took = record { asked = asked; asks = asks; took = took }
-comes_refused words inputs asked (refusal.flm_refused fault) asks took = record { asked = asked; asks = asks; took = took }
-comes_refused words inputs asked (refusal.other_device base size) asks took = record { asked = asked; asks = asks; took = took }
-comes_refused words inputs asked (refusal.no_room need have) asks took = record { asked = asked; asks = asks; took = took }
-comes_refused words inputs asked r asks took = absurd took.given.holds
+pub comes_refused : (words : List (List ℕ)) (inputs : InputsCall) (out : SinkCall) (asked : Asked) (r : Refusal) → Asks words asked
+    → TookFiles inputs asked.files (λ files. IsReadRefusal files r) → ComesRefused words inputs out r
+comes_refused words inputs out asked refusal.out_of_memory asks took = took.none_failed
+comes_refused words inputs out asked refusal.usage asks took = inr (record { asked = asked; asks = asks; took = took })
+comes_refused words inputs out asked (refusal.board_refused fault) asks took = record { asked = asked; asks = asks; took = took }
+comes_refused words inputs out asked (refusal.flm_refused fault) asks took = record { asked = asked; asks = asks; took = took }
+comes_refused words inputs out asked (refusal.other_device base size) asks took = record { asked = asked; asks = asks; took = took }
+comes_refused words inputs out asked (refusal.no_room need have) asks took = record { asked = asked; asks = asks; took = took }
+comes_refused words inputs out asked r asks took = absurd took.given.holds
 
 -- taking files is never refused by a fault of the output
 pub take_no_output : (inputs : InputsCall) (names : List (List ℕ)) (r : Refusal) → IsTakeFault inputs names r → r ≡ refusal.output_fault → ⊥
@@ -119,14 +119,14 @@ module _ (words : List (List ℕ)) (inputs : InputsCall) (told : Bool) (o : Sink
   -- the words fit no call
   pub works_unfit : (e : value.Refusal) → shown e ≡ refusal.usage → AsksNothing words → NoneFailed inputs → Works words inputs Out (Err e)
   works_unfit e is nothing_asked none = record {
-    comes = subst (λ (r : Refusal). ComesRefused words inputs r) (sym is) (inl (nothing_asked, none));
+    comes = subst (λ (r : Refusal). ComesRefused words inputs Out r) (sym is) (inl (nothing_asked, none));
     leaves = subst (λ (r : Refusal). PutsRefused Out r) (sym is) (nothing told o);
   }
 
   -- out of memory
   pub works_without_memory : (e : value.Refusal) → shown e ≡ refusal.out_of_memory → NoneFailed inputs → Works words inputs Out (Err e)
   works_without_memory e is none = record {
-    comes = subst (λ (r : Refusal). ComesRefused words inputs r) (sym is) none;
+    comes = subst (λ (r : Refusal). ComesRefused words inputs Out r) (sym is) none;
     leaves = subst (λ (r : Refusal). PutsRefused Out r) (sym is) (nothing told o);
   }
 
@@ -135,17 +135,29 @@ module _ (words : List (List ℕ)) (inputs : InputsCall) (told : Bool) (o : Sink
       → IsTakeFault inputs (names_in asked.files) (shown e) ⊎ TookFiles inputs asked.files (λ files. IsReadRefusal files (shown e)) →
       Works words inputs Out (Err e)
   works_untaken asked e asks fault = record {
-    comes = ⊎_elim (λ is. comes_untaken words inputs asked (shown e) asks is) (λ took. comes_refused words inputs asked (shown e) asks took) fault;
+    comes = ⊎_elim (λ is. comes_untaken words inputs Out asked (shown e) asks is) (λ took. comes_refused words inputs Out asked (shown e) asks took) fault;
     leaves = puts_nothing told o (shown e)
         (⊎_elim (λ is. take_no_output inputs (names_in asked.files) (shown e) is) (λ took. read_no_output took.given.files (shown e) took.given.holds) fault);
   }
 
 module _ (words : List (List ℕ)) (inputs : InputsCall) (out : SinkCall) where
   -- standard output failed
-  pub works_cut : (e : value.Refusal) (text : List ℕ) → shown e ≡ refusal.output_fault → NoneFailed inputs → TookPart out text → Works words inputs out (Err e)
-  works_cut e text is none part = record {
-    comes = subst (λ (r : Refusal). ComesRefused words inputs r) (sym is) none;
-    leaves = subst (λ (r : Refusal). PutsRefused out r) (sym is) (record { text = text; took = part });
+  pub works_cut : (asked : Asked) (e : value.Refusal) (end : Ending) (rest : List ℕ) → shown e ≡ refusal.output_fault → Asks words asked
+      → TookFiles inputs asked.files (λ files. ClaimsOf files end) → TookPart out (first_line end ++ rest) → Works words inputs out (Err e)
+  works_cut asked e end rest is asks took part = record {
+    comes = subst (λ (r : Refusal). ComesRefused words inputs out r) (sym is) (record {
+      asked = asked;
+      asks = asks;
+      took = record {
+        given = record {
+          files = took.given.files;
+          are_files = took.given.are_files;
+          holds = record { end = end; claims = took.given.holds; rest = rest; took = part };
+        };
+        none_failed = took.none_failed;
+      };
+    });
+    leaves = subst (λ (r : Refusal). PutsRefused out r) (sym is) (record { text = first_line end ++ rest; took = part });
   }
 
   -- the algorithms were checked, and the ending was put

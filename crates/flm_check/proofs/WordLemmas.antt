@@ -5,7 +5,8 @@ use Rattle.std.proofs.lemmas.List.Elements.{All-head, All-tail}
 use Rattle.command_words.specs.Files.{FilesAsked, names_in}
 use Rattle.command_words.specs.Words.{IsDecimal}
 use Rattle.duty_rounds.specs.declared.rounds.Rounds.{Rounds}
-use Rattle.flm_check.specs.Words.{Asked, IsName, seed_name, rounds_name, NoOption, OnlySeed, OnlyRounds, SeedFirst, RoundsFirst, AreOptions, Asks}
+use Rattle.flm_check.specs.Words.{Asked, IsName, seed_name, rounds_name, NoOption, OnlySeed, OnlyRounds, SeedFirst, RoundsFirst}
+use Rattle.flm_check.specs.Words.{IsRounds, AreOptions, Asks}
 use Rattle.flm_check.specs.Requested.{IsSetting}
 use Rattle.flm_check.specs.declared.words.Setting.{Setting}
 use Rattle.flm_check.specs.declared.words.Setting.TheVariants as setting
@@ -57,6 +58,21 @@ four_words (w ∷ x ∷ y ∷ z ∷ v ∷ rest) a b c d four one two three last 
 
 -- ---- options that are read
 
+-- a number of rounds
+pub rounds_read : (name word : List ℕ) (number : ℕ) (result : Option Setting) → name ≡ rounds_name → IsDecimal word number
+    → IfSome result (λ s. (s ≡ setting.Rounds number) × (1 ≤ number)) → IfSome result (IsSetting name word)
+rounds_read name word number None is decimal of = tt
+rounds_read name word number (Some s) is decimal of = subst (λ (x : Setting). IsSetting name word x) (sym of.0) (is, (decimal, of.1))
+
+no_rounds : (name word : List ℕ) (number : ℕ) → name ≡ rounds_name → IsDecimal word number → number ≡ 0 → (s : Setting) → IsSetting name word s → ⊥
+no_rounds name word number is decimal none (setting.Seed n) has = let wrong = ap length (sym is ∙ has.0) in absurd (omega (arith, wrong))
+no_rounds name word number is decimal none (setting.Rounds n) has = absurd (omega (arith, has.1.1, has.1.0.value, decimal.value, none))
+
+pub rounds_unread : (name word : List ℕ) (number : ℕ) (result : Option Setting) → name ≡ rounds_name → IsDecimal word number
+    → IfNone result (number ≡ 0) → IfNone result ((s : Setting) → IsSetting name word s → ⊥)
+rounds_unread name word number None is decimal none = no_rounds name word number is decimal none
+rounds_unread name word number (Some s) is decimal none = tt
+
 -- a single option that gives nothing
 pub options_one : (name word : List ℕ) → ((s : Setting) → IsSetting name word s → ⊥) → (seed rounds : ℕ)
     → AreOptions (name ∷ word ∷ []) seed rounds → ⊥
@@ -67,7 +83,7 @@ options_one name word none seed rounds are = options_by ⊥ (name ∷ word ∷ [
     none (setting.Seed seed) (same, subst (λ (w : List ℕ). IsDecimal w seed) too o.seed_is))
     (λ o.
     let all = o.words_are in let same : name ≡ rounds_name = cc in let too : o.word ≡ word = cc in
-    none (setting.Rounds rounds) (same, subst (λ (w : List ℕ). IsDecimal w rounds) too o.rounds_is))
+    none (setting.Rounds rounds) (same, subst (λ (w : List ℕ). IsRounds w rounds) too o.rounds_is))
     (λ o. let wrong = ap length o.words_are in absurd (omega arith))
     (λ o. let wrong = ap length o.words_are in absurd (omega arith))
     are
@@ -93,7 +109,7 @@ options_two name word other_name other_word seed rounds are =
       one = setting.Seed seed;
       other = setting.Rounds rounds;
       is_one = (n, subst (λ (x : List ℕ). IsDecimal x seed) w o.seed_is);
-      is_other = (m, subst (λ (x : List ℕ). IsDecimal x rounds) v o.rounds_is);
+      is_other = (m, subst (λ (x : List ℕ). IsRounds x rounds) v o.rounds_is);
     })
     (λ o.
     let all = o.words_are in
@@ -101,7 +117,7 @@ options_two name word other_name other_word seed rounds are =
     record {
       one = setting.Rounds rounds;
       other = setting.Seed seed;
-      is_one = (n, subst (λ (x : List ℕ). IsDecimal x rounds) w o.rounds_is);
+      is_one = (n, subst (λ (x : List ℕ). IsRounds x rounds) w o.rounds_is);
       is_other = (m, subst (λ (x : List ℕ). IsDecimal x seed) v o.seed_is);
     })
     are

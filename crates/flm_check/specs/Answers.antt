@@ -42,6 +42,14 @@ pub record ClaimsOf (files : FilesGiven) (end : Ending) : Type 0 where
   pub claims : Claims board algorithms end
   pub proved : (a : flm.Shown) → algorithms ≡ a ∷ [] → IsA1On board a → end ≡ ending.Proved
 
+-- The output failed. It took a beginning of the text that was due. That text begins with the first line of an ending that holds of the
+-- files.
+pub record IsCutShort (files : FilesGiven) (out : SinkCall) : Type 0 where
+  pub end : Ending
+  pub claims : ClaimsOf files end
+  pub rest : List ℕ
+  pub took : TookPart out (first_line end ++ rest)
+
 -- ---- when each answer comes
 
 -- the words ask for a check of some files, all of these were taken, and `Holds` is true of them
@@ -56,16 +64,16 @@ pub record OfUntaken (words : List (List ℕ)) (inputs : InputsCall) (name : Lis
   pub asks : Asks words asked
   pub fault : IsTakeFault inputs (names_in asked.files) (refusal.input_fault name)
 
-abbrev pub ComesRefused : List (List ℕ) → InputsCall → refusal.Refusal → Type 0
-ComesRefused words inputs refusal.out_of_memory = NoneFailed inputs
-ComesRefused words inputs refusal.output_fault = NoneFailed inputs
-ComesRefused words inputs (refusal.input_fault name) = OfUntaken words inputs name
-ComesRefused words inputs refusal.usage = (AsksNothing words × NoneFailed inputs) ⊎ OfFiles words inputs (λ files. IsRefused files refusal.usage)
-ComesRefused words inputs r = OfFiles words inputs (λ files. IsRefused files r)
+abbrev pub ComesRefused : List (List ℕ) → InputsCall → SinkCall → refusal.Refusal → Type 0
+ComesRefused words inputs out refusal.out_of_memory = NoneFailed inputs
+ComesRefused words inputs out refusal.output_fault = OfFiles words inputs (λ files. IsCutShort files out)
+ComesRefused words inputs out (refusal.input_fault name) = OfUntaken words inputs name
+ComesRefused words inputs out refusal.usage = (AsksNothing words × NoneFailed inputs) ⊎ OfFiles words inputs (λ files. IsRefused files refusal.usage)
+ComesRefused words inputs out r = OfFiles words inputs (λ files. IsRefused files r)
 
-abbrev pub Comes : List (List ℕ) → InputsCall → Result Ending Refusal → Type 0
-Comes words inputs (Ok end) = OfFiles words inputs (λ files. ClaimsOf files end)
-Comes words inputs (Err e) = ComesRefused words inputs (shown e)
+abbrev pub Comes : List (List ℕ) → InputsCall → SinkCall → Result Ending Refusal → Type 0
+Comes words inputs out (Ok end) = OfFiles words inputs (λ files. ClaimsOf files end)
+Comes words inputs out (Err e) = ComesRefused words inputs out (shown e)
 
 -- ---- status and text
 
@@ -74,7 +82,7 @@ pub record TookBehind (out : SinkCall) (line : List ℕ) : Type 0 where
   pub rest : List ℕ
   pub took : TookAll out (line ++ rest)
 
--- `out` took a beginning of some text, and its count of faults rose
+-- `out` took a beginning of a text, and its count of faults rose
 pub record TookSome (out : SinkCall) : Type 0 where
   pub text : List ℕ
   pub took : TookPart out text
@@ -104,7 +112,7 @@ Leaves out (Err e) = PutsRefused out (shown e)
 
 -- what a call does, except for the status and the line on `err`
 pub record Works (words : List (List ℕ)) (inputs : InputsCall) (out : SinkCall) (result : Result Ending Refusal) : Type 0 where
-  pub comes : Comes words inputs result
+  pub comes : Comes words inputs out result
   pub leaves : Leaves out result
 
 pub record Answers (words : List (List ℕ)) (status : ℕ) (inputs : InputsCall) (out err : SinkCall) : Type 0 where

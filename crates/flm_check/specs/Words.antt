@@ -20,7 +20,10 @@ seed_name = codes "--seed"
 abbrev pub rounds_name : List ℕ
 rounds_name = codes "--rounds"
 
--- The options: each is a name and a number in decimal digits. A number that isn't given is 1.
+-- The options: each is a name and a number in decimal digits. A number that isn't given is 1. There is at least one round.
+
+abbrev pub IsRounds : List ℕ → ℕ → Type 0
+IsRounds word rounds = IsDecimal word rounds × (1 ≤ rounds)
 
 pub record NoOption (options : List (List ℕ)) (seed rounds : ℕ) : Type 0 where
   pub words_are : options ≡ []
@@ -37,21 +40,21 @@ pub record OnlyRounds (options : List (List ℕ)) (seed rounds : ℕ) : Type 0 w
   pub word : List ℕ
   pub words_are : options ≡ rounds_name ∷ word ∷ []
   pub seed_is : seed ≡ 1
-  pub rounds_is : IsDecimal word rounds
+  pub rounds_is : IsRounds word rounds
 
 pub record SeedFirst (options : List (List ℕ)) (seed rounds : ℕ) : Type 0 where
   pub seed_word : List ℕ
   pub rounds_word : List ℕ
   pub words_are : options ≡ seed_name ∷ seed_word ∷ rounds_name ∷ rounds_word ∷ []
   pub seed_is : IsDecimal seed_word seed
-  pub rounds_is : IsDecimal rounds_word rounds
+  pub rounds_is : IsRounds rounds_word rounds
 
 pub record RoundsFirst (options : List (List ℕ)) (seed rounds : ℕ) : Type 0 where
   pub seed_word : List ℕ
   pub rounds_word : List ℕ
   pub words_are : options ≡ rounds_name ∷ rounds_word ∷ seed_name ∷ seed_word ∷ []
   pub seed_is : IsDecimal seed_word seed
-  pub rounds_is : IsDecimal rounds_word rounds
+  pub rounds_is : IsRounds rounds_word rounds
 
 abbrev pub AreOptions : List (List ℕ) → ℕ → ℕ → Type 0
 AreOptions options seed rounds = NoOption options seed rounds ⊎ (OnlySeed options seed rounds

@@ -2,6 +2,7 @@
 ghost use Rattle.std.specs.Prelude.{◌≡◌, ◌++◌};
 ghost use Rattle.std.specs.List.{flat_map};
 ghost use Rattle.outside_io.specs.Puts.{Puts};
+ghost use Rattle.flm_check.specs.Verdicts.{end_duty, breach_duty};
 
 use algo_calls::CallEnd;
 use duty_rounds::{Broken, Report, Verdict};
@@ -41,7 +42,9 @@ pub enum Ending {
 }
 
 /// How a call that ended so broke its duty.
-fn duty_of_end(end: CallEnd) -> Duty {
+fn duty_of_end(end: CallEnd) -> Duty
+    ensures { result ≡ end_duty end }
+{
     match end {
         CallEnd::Ended(RunEnd::NoFuel { .. }) => Duty::NoFuel,
         CallEnd::Ended(_) | CallEnd::DeviceFault => Duty::Fault,
@@ -50,7 +53,9 @@ fn duty_of_end(end: CallEnd) -> Duty {
 }
 
 /// How a call broke its duty. `is_inside` says whether a cell that differs lies in the call's place.
-fn duty_of(broken: &Broken, is_inside: bool) -> Duty {
+fn duty_of(broken: &Broken, is_inside: bool) -> Duty
+    ensures { result ≡ breach_duty broken.now.breach is_inside }
+{
     match broken.breach {
         Breach::NotDone { end } => duty_of_end(end),
         Breach::Outside { .. } => Duty::OperationOutside,

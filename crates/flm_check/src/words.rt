@@ -45,6 +45,18 @@ fn count_names(words: &[Word]) -> usize
     if is_name(first) { 1 } else { 0 }
 }
 
+/// The setting for a number of rounds. There is at least one round: no rounds would try nothing.
+fn read_rounds(number: u32) -> Option<Setting>
+    ensures some { IfSome result (λ setting. (setting ≡ Setting.Rounds number) × (1 ≤ number)) }
+    ensures none { IfNone result (number ≡ 0) }
+{
+    if number == 0 {
+        None
+    } else {
+        Some(Setting::Rounds(number))
+    }
+}
+
 /// What an option and the word after it give.
 fn read_setting(name: &Word, value: &Word) -> Option<Setting>
     ensures some { IfSome result (IsSetting name.now value.now) }
@@ -53,7 +65,7 @@ fn read_setting(name: &Word, value: &Word) -> Option<Setting>
     let number = read_number(value.text(), 10)?;
     match name.bytes() {
         b"--seed" => Some(Setting::Seed(number)),
-        b"--rounds" => Some(Setting::Rounds(number)),
+        b"--rounds" => read_rounds(number),
         _ => None,
     }
 }

@@ -76,8 +76,6 @@ assembled() {
     answers 'in C, three rounds' tried 0 small.toml flash.flm --rounds 3 --seed 99
     answers 'A1 where another kind of controller is' 'broken cell-inside' 15 fpec_small.toml a1.flm
     answers 'A1 where a sector is longer' 'broken operation-outside' 15 longer.toml a1.flm
-    answers 'no rounds' tried 0 small.toml flash.flm --rounds 0
-    same 'no rounds: the numbers' 'tried 0 lists 0 calls' "$(cat answer)"
 }
 
 # Two regions, of which the second has an algorithm that was forged for it.
@@ -148,6 +146,8 @@ refused() {
     refuses 2 "$usage"
     refuses 2 "$usage" small.toml
     refuses 2 "$usage" small.toml a1.flm --seed
+    refuses 2 "$usage" small.toml a1.flm --rounds 0
+    refuses 2 "$usage" small.toml a1.flm --rounds 00 --seed 1
     refuses 2 "$usage" small.toml a1.flm --seed x
     refuses 2 "$usage" small.toml a1.flm --seed -1
     refuses 2 "$usage" small.toml a1.flm --seed +1

@@ -1,8 +1,9 @@
-//! Lists what is in a job file, or reads out its parts: `flm_job JOB [board | flm [1|2] | image hex|srec | snapshot]`.
+//! Lists what is in a job file, or reads out its parts: `flm_job JOB [board | flm [1|2] | image hex|srec | snapshot raw]`.
 #![tactic(auto)]
 
 mod call;
 mod read_disk;
+mod rescue;
 mod run;
 mod words;
 

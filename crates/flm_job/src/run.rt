@@ -8,6 +8,7 @@ use disk_files::DiskBench;
 use faults::OutOfMemory;
 use host_files::{HeldStreams, StdSink, hold_streams, read_arguments};
 use job_file::{OpenFault, open};
+use job_parts::MendedBench;
 use octets::Word;
 use outside_io::Sink;
 use std::process::ExitCode;
@@ -76,22 +77,28 @@ fn call(streams: HeldStreams, arguments: &[Word]) -> Result<u8, OutOfMemory> {
     let rt = streams.host();
     let mut out = StdSink::new(rt.stdout());
     let mut err = StdSink::new(rt.stderr());
-    let mut bench = bench_of(rt, job_name(arguments))?;
-    Ok(show(
-        rt.alloc(),
-        words_of(arguments),
-        &mut bench,
-        &mut out,
-        &mut err,
-    ))
+    let bench = bench_of(rt, job_name(arguments))?;
+    Ok(show(rt.alloc(), words_of(arguments), bench, &mut out, &mut err))
 }
 
-/// A bench over a job file, with as many cells as its job says, if it stands for one.
+/// A bench over a job file, with as many cells as its job says. The file stands for a job, or would with the hash that was found.
 fn bench_of(rt: HostRuntime, name: &str) -> Result<DiskBench<ReadDisk>, OutOfMemory> {
     let mut bench = bench_with(rt, name, 0)?;
     match open(rt.alloc(), &mut bench) {
         Err(OpenFault::CellsDiffer { said, found: _ }) => bench_with(rt, name, said),
+        Err(OpenFault::Damaged { kept: _, found }) => {
+            bench_with(rt, name, cells_with(rt, bench, found))
+        }
         _ => Ok(bench),
+    }
+}
+
+/// The number of cells of the job that the file would stand for with this hash, or 0.
+fn cells_with(rt: HostRuntime, bench: DiskBench<ReadDisk>, hash: [u8; 32]) -> u32 {
+    let mut mended = MendedBench::new(bench, hash);
+    match open(rt.alloc(), &mut mended) {
+        Err(OpenFault::CellsDiffer { said, found: _ }) => said,
+        _ => 0,
     }
 }
 

@@ -122,6 +122,26 @@ refused_as_status() {
     done
 }
 
+# A damaged job gives the parts of the job for which its file stands once its hash is put right, each with a line that nothing vouches for it.
+gives_unvouched() {
+    local name=$1 file=$2 line status
+    line=$("$tool" "$file" cells status 2>&1)
+    python3 - "$file" << 'END'
+import hashlib, sys
+job = open(sys.argv[1], "rb").read()
+open("righted", "wb").write(job[:8] + hashlib.sha256(job[40:]).digest() + job[40:])
+END
+    refuses "$name: the listing" 7 "$line" "$file"
+    for part in board flm 'flm 2' 'image hex' 'image srec' 'snapshot raw'; do
+        # shellcheck disable=SC2086
+        "$program" righted $part > wanted 2> reason
+        # shellcheck disable=SC2086
+        status=$(job "$file" $part)
+        cmp -s answer wanted
+        same "$name: '$part'" "7 0 $line"$'\n'"$warning" "$status $? $(cat reason)"
+    done
+}
+
 # One bit is changed, at each of some bytes.
 damaged() {
     local at value
@@ -129,18 +149,25 @@ damaged() {
         cp job changed
         value=$(od -An -tu1 -j "$at" -N 1 job)
         patch changed "$at" "$(printf %02X $((value ^ 1 << at % 8)))"
-        refused_as_status "one bit of byte $at" changed
+        case $("$tool" changed cells status 2>&1) in
+            'flmprog: job: damaged'*) gives_unvouched "one bit of byte $at" changed ;;
+            *) refused_as_status "one bit of byte $at" changed ;;
+        esac
     done
 }
 
 cut_short() {
     local length
-    for length in 0 1 2 8 40 63 64 65 200 $(($(stat -c %s job) - 1)); do
+    for length in 0 1 2 8 40 63; do
         head -c "$length" job > cut
         refused_as_status "cut to $length" cut
     done
+    for length in 64 65 200 $(($(stat -c %s job) - 1)); do
+        head -c "$length" job > cut
+        gives_unvouched "cut to $length" cut
+    done
     { cat job; printf x; } > longer
-    refused_as_status 'a byte more' longer
+    gives_unvouched 'a byte more' longer
     head -c 100 /dev/urandom | sed 's/^/\xA5/' > noise
     refused_as_status 'noise' noise
 }
@@ -221,9 +248,16 @@ large() {
     done
     cmp -s answer before
     same '16 MiB: the snapshot' 0 $?
+    patch large 20 "$(printf %02X $((255 - $(od -An -tu1 -j 20 -N 1 large))))"
+    /usr/bin/time -q -f '%M' -o time "$program" large snapshot raw > answer 2> reason
+    same '16 MiB, damaged: the snapshot' "7 $warning" "$? $(tail -n 1 reason)"
+    cmp -s answer before
+    same '16 MiB, damaged: it is the old one' 0 $?
+    same '16 MiB, damaged: at most 12 MiB' 1 "$(($(cat time) <= 12288))"
 }
 
 usage='flmprog: usage: flm_job JOB [board | flm [1|2] | image hex|srec | snapshot raw]'
+warning="flmprog: job: its hash doesn't vouch for what is given"
 one_region
 words
 first_format

@@ -3,3 +3,4 @@ pub mod LengthLemmas
 pub mod GiveLemmas
 pub mod HashLemmas
 pub mod ListingLemmas
+pub mod MendedLemmas

@@ -3,3 +3,4 @@ pub mod Lengths
 pub mod Gives
 pub mod Listing
 pub mod Parts
+pub mod Mended

@@ -172,7 +172,14 @@ fn put_snapshot<'a, B: Bench, O: Sink>(
     ensures { PutsPart Part.Snapshot job.now (bench_call B.tells (B.state bench.old) (B.state bench.new))
         (sink_call O.tells (O.state out.old) (O.state out.new)) (answer_of result) }
 {
-    copy(bench, job.snapshot_at, u64::from(job.cells()), out)
+    copy(bench, snapshot_at(job), u64::from(job.cells()), out)
+}
+
+/// Where the snapshot of a job begins in its file.
+fn snapshot_at(job: &Job) -> u64
+    ensures { result ≡ job.now.snapshot_at }
+{
+    job.snapshot_at
 }
 
 /// Puts a map as a text of this form.

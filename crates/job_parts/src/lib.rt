@@ -7,8 +7,10 @@ mod giving;
 mod hashes;
 mod lengths;
 mod listing;
+mod mended;
 mod part;
 mod pieces;
 
 pub use giving::give;
+pub use mended::MendedBench;
 pub use part::{Part, Place};

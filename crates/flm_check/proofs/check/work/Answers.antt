@@ -1,5 +1,5 @@
 -- `work`: its contract, `Works`, and what it calls asks for.
-use Rattle.std.proofs.Common.{◌++◌, ◌∙◌, sym, ap, subst, arith, refl, List, map}
+use Rattle.std.proofs.Common.{◌∙◌, sym, ap, subst, arith, refl, List, map}
 use Rattle.std.specs.Vec.{vec_len}
 use Rattle.std.proofs.lemmas.List.{length-map}
 use Rattle.std.proofs.lemmas.Option.{slice_get_within}
@@ -12,7 +12,6 @@ use Rattle.command_files.specs.Inputs.{inputs_call}
 use Rattle.command_files.proofs.TakeLemmas.{none_failed_here}
 use Rattle.command_files.specs.Call.{sink_call}
 use Rattle.duty_rounds.specs.Verdicts.{AreFit, IsTrueOf}
-use Rattle.flm_check.specs.Endings.{first_line}
 use Rattle.flm_check.specs.Requested.{asked_of}
 use Rattle.flm_check.specs.BoardAlgorithms.{flms_in}
 use Rattle.flm_check.proofs.BoardAlgorithmsLemmas.{are_fit}
@@ -73,12 +72,27 @@ returns-in_err-answer g c =
 
 pub returns-in_err-put : goal.returns-in_err-put
 returns-in_err-put g c =
+    let b = board.shown c.in_ok-checked.checked.board in
+    let items = c.in_ok-checked.checked.algorithms.items in
+    let v = c.in_ok-report.report.verdict in
+    let took = c.in_ok-checked.ensures in
     let puts = c.in_err-put.ensures in
     let p = err_from_is_err_and c.from_residual-in_err-put.result c.from_residual-in_err-put.ensures.1 in
     rw p.1 (works_cut c.args.words.now (inputs_call g.I.Inputs.tells (g.I.Inputs.state c.args.inputs.now) (g.I.Inputs.state c.take_board_algorithms.new.inputs))
-    (sink_call g.O.Sink.tells (g.O.Sink.state c.args.out.now) (g.O.Sink.state c.put.new.out)) p.0
-    (first_line c.in_ok-answer.answer.ending ++ c.as_bytes.result.now)
-    (ap shown p.2) c.in_ok-checked.ensures.none_failed (record { taken = puts.err; later = puts.cause.later; rose = puts.cause.on_fault refl }))
+    (sink_call g.O.Sink.tells (g.O.Sink.state c.args.out.now) (g.O.Sink.state c.put.new.out)) (asked_of c.in-Some.request) p.0
+    c.in_ok-answer.answer.ending c.as_bytes.result.now (ap shown p.2) c.in-Some.ensures.some
+    (record {
+      given = record {
+        files = took.given.files;
+        are_files = took.given.are_files;
+        holds = claims_of took.given.files b (map flm.shown items) v c.in_ok-answer.answer.ending took.given.holds
+            (subst (λ (l : List Algorithm). IsTrueOf b (map flm.shown l) v) c.as_slice.ensures.value c.in_ok-report.ensures.says)
+            (λ a only on. c.in_ok-report.ensures.proved a (ap (λ (l : List Algorithm). map flm.shown l) c.as_slice.ensures.value ∙ only) on)
+            c.in_ok-answer.ensures;
+      };
+      none_failed = took.none_failed;
+    })
+    (record { taken = puts.err; later = puts.cause.later; rose = puts.cause.on_fault refl }))
 
 pub returns : goal.returns
 returns g c =

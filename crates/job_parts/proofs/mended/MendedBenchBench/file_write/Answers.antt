@@ -1,0 +1,8 @@
+-- `file_write`: its clause `does`.
+use Rattle.job_parts.proofs.MendedLemmas.{refused_write}
+use Rattle.job_parts.proofs.mended.MendedBenchBench.file_write.Goals as goal
+
+pub returns-clause-does : goal.returns-clause-does
+returns-clause-does g c =
+    let m = c.args.self.now in
+    refused_write (g.B.Bench.state m.inner) m.hash m.writes c.raise.new.self m.cells c.raise.ensures.later c.raise.ensures.rose
