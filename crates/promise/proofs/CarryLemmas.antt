@@ -58,7 +58,7 @@ same_goal New text b = refl
 same_goal Old text b = refl
 
 -- the operation that was open at the entry ends, and leaves the cells as surveyed
-pub ends_operation : (call : answers.Call) (First : List ℕ → List ℕ → Type 0) {w : Work} {broken : Broken} → carry.Stops call.bench First w broken
+abbrev pub ends_operation : (call : answers.Call) (First : List ℕ → List ℕ → Type 0) {w : Work} {broken : Broken} → carry.Stops call.bench First w broken
     → EndsOperation (its call) w.surveyed
 ends_operation call First stops = record {
   end = stops.broken_off;

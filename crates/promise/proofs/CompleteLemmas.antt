@@ -44,7 +44,7 @@ ends call (refused r) says counts none unless = ⊎_elim
     (λ (is : yields (refused r) ≡ true). absurd (cc))
     unless
 
-its_size : (job : Job) (says : SaysJob job) (right : IsRight job says) (count : ℕ) → length job.snapshot ≡ count → size_of says.board.regions ≡ count
+pub its_size : (job : Job) (says : SaysJob job) (right : IsRight job says) (count : ℕ) → length job.snapshot ≡ count → size_of says.board.regions ≡ count
 its_size job says right count is = sym right.is_job.cells ∙ ap (λ (l : List ℕ). length l) (sym says.snapshot_is) ∙ is
 
 goes_on : (goal : Goal) (call : answers.Call) → IsTrue call.bench.tells → GoOnAnswers goal call

@@ -11,6 +11,7 @@ mod CampaignLemmas
 mod RecoveryLemmas
 mod BackLemmas
 mod CompleteLemmas
+mod LocalLemmas
 mod GangLemmas
 mod CellLemmas
 mod MomentLemmas

@@ -19,6 +19,8 @@ use Rattle.promise.proofs.ClassLemmas.{AreBytes}
 use Rattle.promise.proofs.KeepLemmas.{keeps, resumes}
 use Rattle.promise.proofs.CompleteLemmas.{completes}
 use Rattle.promise.proofs.MomentLemmas.{forward}
+use Rattle.promise.specs.Local.{KeepsToPlan, printed}
+use Rattle.promise.proofs.LocalLemmas.{keeps_to_plan}
 
 -- ---- one bench
 
@@ -59,6 +61,19 @@ module _ {n n' : ℕ} {tb ti to te : Bool} {s s' t t' : BenchState} {i j : Input
   completed command words told told_files asks status old new names inputs inputs' out out' it =
       subst (Completes command) (λ k. call_of (names k) (old k) (new k) (fault_counts (inputs k) (inputs' k)) (fault_counts (out k) (out' k)) (status k))
       (completes command words (answers.call_of n (bench_call tb s t) (inputs_call ti i j) (sink_call to o p) (sink_call te e f)) told told_files asks it)
+
+module _ {n n' : ℕ} {tb ti to te : Bool} {s s' t t' : BenchState} {i j : InputsState} {o p e f : SinkState} {under : List ℕ → Option (List ℕ)}
+    {taken failed put lost : ℕ} {had has : List ℕ} where
+  pub kept_to_plan : (command : Command) → IsTrue tb → IsTrue ti → AreBytes s'.file → n ≡ n' → s ≡ s' → t ≡ t' → i.stands ≡ under → i.faults ≡ taken
+      → j.faults ≡ failed → o.faults ≡ put → p.faults ≡ lost → o.taken ≡ had → p.taken ≡ has
+      → Answers (answers.call_of n (bench_call tb s t) (inputs_call ti i j) (sink_call to o p) (sink_call te e f)) (Some command)
+      → KeepsToPlan command (call_of under s' t' (fault_counts taken failed) (fault_counts put lost) n') (printed to had has)
+  kept_to_plan command told told_files bytes status old new names inputs inputs' out out' before after it =
+      coe 0 1 (k. KeepsToPlan command
+      (call_of (names k) (old k) (new k) (fault_counts (inputs k) (inputs' k)) (fault_counts (out k) (out' k)) (status k))
+      (printed to (before k) (after k)))
+      (keeps_to_plan command (answers.call_of n (bench_call tb s t) (inputs_call ti i j) (sink_call to o p) (sink_call te e f)) told told_files
+      (subst (λ (b : BenchState). AreBytes b.file) (sym old) bytes) it)
 
 module _ {n began ended : ℕ} {tb ti to te : Bool} {s t : BenchState} {i j : InputsState} {o p e f : SinkState} {file : List ℕ} where
   pub forwarded : (command : Command) → IsTrue tb → AreBytes file → s.file ≡ file → s.moment ≡ began → t.moment ≡ ended

@@ -12,6 +12,7 @@ ghost use Rattle.gang_commands.specs.Words.{DoFit};
 ghost use Rattle.promise.specs.Promise.{KeepsPromise, GangKeeps, fault_counts, call_of};
 ghost use Rattle.promise.specs.Complete.{Completes};
 ghost use Rattle.promise.specs.Recovery.{Resumes};
+ghost use Rattle.promise.specs.Local.{KeepsToPlan, printed};
 
 use bench_model::Bench;
 use flm_cli::flmprog;
@@ -44,6 +45,10 @@ pub fn flash<B: Bench, I: Inputs, O: Sink, E: Sink>(
         (call.bench_call B.tells (B.state bench.old) (B.state bench.new)) (inputs_call I.tells (I.state inputs.old) (I.state inputs.new))
         (call.sink_call O.tells (O.state out.old) (O.state out.new)) (call.sink_call E.tells (E.state err.old) (E.state err.new))) asked }
     ensures usage { AsksNothing words.now → (result ≡ 2) ⊎ (result ≡ 1) }
+    ensures local { IsTrue B.tells → IsTrue I.tells → (command : Command) → Asks words.now command
+        → KeepsToPlan command (call_of (I.state inputs.old).stands (B.state bench.old) (B.state bench.new)
+        (fault_counts (I.state inputs.old).faults (I.state inputs.new).faults) (fault_counts (O.state out.old).faults (O.state out.new).faults) result)
+        (printed O.tells (O.state out.old).taken (O.state out.new).taken) }
     ensures forward { IsTrue B.tells → (command : Command) → Asks words.now command → (B.state bench.old).moment ≤ (B.state bench.new).moment }
 {
     flmprog(alloc, words, bench, inputs, out, err)

@@ -1,6 +1,6 @@
 -- `flash`: each of its clauses asks that the call which is made is the one that is answered, part by part.
 use Rattle.std.proofs.Common.{arith, Some, None}
-use Rattle.promise.proofs.TopLemmas.{answered, kept, completed, resumed, unfit, forwarded}
+use Rattle.promise.proofs.TopLemmas.{answered, kept, completed, resumed, unfit, forwarded, kept_to_plan}
 use Rattle.promise.proofs.top.flash.Goals as goal
 
 pub returns-clause-promise : goal.returns-clause-promise
@@ -37,3 +37,10 @@ returns-clause-usage g c = λ none. let is = unfit _ (c.flmprog.ensures None non
 pub returns-clause-forward : goal.returns-clause-forward
 returns-clause-forward g c = λ told command asks.
     forwarded command told (g.met.B.Bench.bytes c.args.bench.now told).0 (grind arith) (grind arith) (grind arith) (c.flmprog.ensures (Some command) asks)
+
+pub returns-clause-local : goal.returns-clause-local
+returns-clause-local g c = λ told told_files command asks.
+    kept_to_plan command told told_files (g.met.B.Bench.bytes c.args.bench.now told).0
+    (grind arith) (grind arith) (grind arith) (grind arith)
+    (grind arith) (grind arith) (grind arith) (grind arith)
+    (grind arith) (grind arith) (c.flmprog.ensures (Some command) asks)
