@@ -16,3 +16,4 @@ mod CellLemmas
 mod MomentLemmas
 mod TopLemmas
 mod MadeLemmas
+mod ReadyLemmas

@@ -5,3 +5,4 @@ pub mod Campaign
 pub mod Complete
 pub mod Recovery
 pub mod Made
+pub mod Ready

@@ -1,5 +1,5 @@
 -- `call_lose_call`: its contract, `WereMade`, and what the second call asks for.
-use Rattle.std.proofs.Common.{◌⊎◌, ⊎_elim, inl, inr, refl}
+use Rattle.std.proofs.Common.{⊎_elim, inl, inr, refl}
 use Rattle.command_words.specs.Files.{program, begin}
 use Rattle.command_words.specs.Words.{Asks}
 use Rattle.promise.specs.Campaign.{command_to}
