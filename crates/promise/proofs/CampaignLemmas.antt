@@ -30,7 +30,7 @@ whole_text job says f whole = subst (λ (b : List ℕ). IsWhole b f) says.body_i
 never_free : (job : Job) → SaysJob job → (f : List ℕ) → IsWhole job.body f → IsFree f → ⊥
 never_free job says f whole free = not_free says.text f (whole_text job says f whole) free
 
-one_body : (a b f : List ℕ) → IsWhole a f → IsWhole b f → a ≡ b
+pub one_body : (a b f : List ℕ) → IsWhole a f → IsWhole b f → a ≡ b
 one_body a b f one two = let e : 165 ∷ a ≡ 165 ∷ b = sym one ∙ two in cc
 
 -- a body has one goal

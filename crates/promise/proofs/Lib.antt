@@ -17,3 +17,4 @@ mod CellLemmas
 mod MomentLemmas
 mod TopLemmas
 mod MadeLemmas
+mod ReadyLemmas

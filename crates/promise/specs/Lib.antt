@@ -5,4 +5,5 @@ pub mod Campaign
 pub mod Complete
 pub mod Recovery
 pub mod Made
+pub mod Ready
 pub mod Local
