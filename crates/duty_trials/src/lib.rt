@@ -17,6 +17,6 @@ mod works;
 pub use ideal::{Filling, PageBytes, fill, mix, random_byte};
 pub use law::a_breach_refutes;
 pub use list::{Ended, Turn, Work};
-pub use stand::{Breach, Stand};
+pub use stand::{Breach, Stand, calls_of};
 pub use subject::{Span, Subject};
 pub use tally::{Count, Tally};

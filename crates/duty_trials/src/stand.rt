@@ -98,7 +98,7 @@ fn bench_with(
 }
 
 /// The target of a board as after a reset, and the calls of the algorithm.
-fn calls_of(alloc: Global, subject: &Subject<'_>) -> Result<CallsIn, OutOfMemory>
+pub fn calls_of(alloc: Global, subject: &Subject<'_>) -> Result<CallsIn, OutOfMemory>
     ensures setup { IfOk result (λ calls. setup_at calls ≡ setup_for subject.now) }
     ensures base { IfOk result (λ calls. calls.machine.ram_base ≡ (board_in subject.now).ram_base) }
     ensures size { IfOk result (λ calls. calls.machine.ram_size ≡ (board_in subject.now).ram_size) }

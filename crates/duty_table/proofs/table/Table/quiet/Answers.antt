@@ -1,0 +1,8 @@
+-- `Table::quiet`: its clause `goes`.
+use Rattle.std.proofs.Common.{refl}
+use Rattle.duty_table.proofs.RunLemmas.{ok_back, quiet_leaves}
+use Rattle.duty_table.proofs.table.Table.quiet.Goals as goal
+
+pub returns-clause-goes : goal.returns-clause-goes
+returns-clause-goes c = ok_back c.run.result _ _ (λ left steps r.
+    quiet_leaves c.args.self.now.subject.now _ c.args.state.now left c.args.call refl refl refl refl refl r) c.run.ensures.runs

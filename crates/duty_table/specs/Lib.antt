@@ -1,0 +1,5 @@
+pub mod Alike
+pub mod States
+pub mod Filled
+pub mod Tables
+pub mod Reasons
