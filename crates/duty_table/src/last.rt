@@ -182,8 +182,8 @@ impl<'h, 's, 'b> Table<'h, 's, 'b> {
         Ok(None)
     }
 
-    /// Returns why the states don't fill the table of a kind of list. The reason names the first call that fails: Init comes first, then the
-    /// function, EraseChip and UnInit.
+    /// Returns why the states don't fill the table of a kind of list. The reason names the first call that fails: Init comes first, then
+    /// the list's function, EraseChip and UnInit.
     pub(crate) fn list_fills(
         &mut self,
         loaded: &Between,

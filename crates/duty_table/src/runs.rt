@@ -10,8 +10,8 @@ use duty_trials::Subject;
 use faults::OutOfMemory;
 use std::alloc::Global;
 
-/// The units of the bench's record. They are enough for a call that erases each sector in an operation of its own, or that programs each byte
-/// of a page in one and reads it.
+/// The units of the bench's record. They are enough for a call that erases each sector in an operation of its own, or that programs each
+/// byte of a page in one and reads it.
 fn room(subject: &Subject<'_>) -> u64 {
     let sectors = u64::from(subject.geometry.sectors());
     4096 + 4 * sectors + 8 * u64::from(subject.algorithm.device.page)

@@ -138,8 +138,8 @@ impl<'h, 's, 'b> Table<'h, 's, 'b> {
         Ok(Ok(changed))
     }
 
-    /// Makes calls of a function from each state of the list, also from those that are added on the way. Returns whether the list changed, or
-    /// why a call isn't decided.
+    /// Makes calls of a function from each state of the list, also from those that are added on the way. Returns whether the list changed,
+    /// or why a call isn't decided.
     fn pass(
         &mut self,
         states: &mut Vec<Between>,
@@ -182,7 +182,8 @@ impl<'h, 's, 'b> Table<'h, 's, 'b> {
         }
     }
 
-    /// Finds the states that Init leaves, and then the first, the middle and the last call of each function, until the list no longer changes.
+    /// Finds the states that Init leaves, and then those that the first, the middle and the last call of each function leave, until the
+    /// list no longer changes.
     fn seek(
         &mut self,
         loaded: &Between,
