@@ -1,4 +1,4 @@
--- Registers that are the same but for the address, and states that say no more than others.
+-- Registers that are equal but for the address, and states that say no more than others.
 use Rattle.std.proofs.Common.{◌≡◌, ◌<◌, ◌≤◌, ⊎_elim, ℕ, Bool, true, false, List, length, get_or, refl, sym, ap, subst, ◌∙◌, arith}
 use Rattle.std.proofs.lemmas.Bool.{cases_lt}
 use Rattle.std.proofs.lemmas.List.{get_or_past}
@@ -51,7 +51,7 @@ own_address : (r : AnyRegisters) → r ≡ with_address r (address_in r)
 own_address (Fc1 r) = refl
 own_address (Fpec r) = refl
 
--- registers that fit some with an address that isn't known
+-- registers that a state allows are also allowed by a state of like registers whose address isn't known
 loosely : (known : Bool) (own its r : AnyRegisters) → AreAlike own its → Alike known own r → Alike false its r
 loosely true own its r are fits = (
   address_in own,

@@ -1,6 +1,6 @@
--- The last pass: from the calls that lead from one state to another to the table of a kind of list.
-use Rattle.std.proofs.Common.{◌≡◌, ◌<◌, ◌≤◌, ◌+◌, ◌⊎◌, ⊎_elim, ℕ, List, [], ◌∷◌, length, get_or, map, Option}
-use Rattle.std.proofs.Common.{Some, None, Result, Ok, Err, IsSome, IfNone, IfOk, refl, sym, ap, subst, ◌∙◌, arith}
+-- The last pass: where each call leads from each state to one of the states, the table of a kind of list is filled.
+use Rattle.std.proofs.Common.{◌≡◌, ◌<◌, ◌≤◌, ◌+◌, ◌⊎◌, ⊎_elim, ℕ, List, [], ◌∷◌, length, get_or, Option}
+use Rattle.std.proofs.Common.{Some, None, Result, Ok, Err, IsSome, IfNone, IfOk, sym, subst, ◌∙◌, arith}
 use Rattle.std.proofs.lemmas.Bool.{cases_lt}
 use Rattle.std.proofs.lemmas.List.{get_or_default, length-map, get_or-map}
 use Rattle.faults.specs.declared.out_of_memory.OutOfMemory.{OutOfMemory}
@@ -22,14 +22,14 @@ use Rattle.duty_runs.specs.declared.went.Went.TheVariants as went
 use Rattle.duty_runs.specs.Runs.{IfBack, Leaves}
 use Rattle.duty_table.specs.declared.reason.Reason.{Reason}
 use Rattle.duty_table.specs.Alike.{FitsOne}
-use Rattle.duty_table.specs.Filled.{GoesOn, load_state, state_at}
+use Rattle.duty_table.specs.Filled.{load_state, state_at}
 use Rattle.duty_table.specs.Reasons.{IsBackTo}
 use Rattle.duty_table.specs.States.{state_in}
 use Rattle.duty_table.specs.Tables.{CallFills, CallsFill, EndFills, EndsFill, EntersIn, InitFills, ListFills, WorksFill}
 use Rattle.duty_table.specs.Tables.{QuietGoes, QuietLeaves, WorkGoes, WorkLeaves, load_for, state_for, states_for}
 use Rattle.duty_table.proofs.StateLemmas.{are_states, enters}
 
--- what holds where there is no reason
+-- what follows from the statement that holds where there is no reason holds there too
 pub none_map : (o : Option Reason) (P Q : Type 0) → (P → Q) → IfNone o P → IfNone o Q
 none_map None P Q f so = f so
 none_map (Some reason) P Q f so = tt
@@ -41,7 +41,7 @@ pub ok_none : (r : Result (Option Reason) OutOfMemory) (P Q : Type 0) → (P →
 ok_none (Ok o) P Q f so = none_map o P Q f so
 ok_none (Err e) P Q f so = tt
 
--- the same run, of which something else is known at its end
+-- a run whose end meets `T` is a run whose end meets `U`, where `U` follows from `T`
 abbrev goes_map : (s : Setup) (place : Option (ℕ × ℕ)) (st : State) (c : Call) (bytes : List ℕ) (from len : ℕ) (before : List CellMark) (after : ℕ → CellMark)
     (T U : TargetMarks → World → Type 0) → ((m : TargetMarks) (w : World) → T m w → U m w) → Goes s place st c bytes from len before after T
     → Goes s place st c bytes from len before after U
@@ -89,7 +89,7 @@ end_fills t w kind st (went.Back left steps) told goes back =
 pub none_yet : (t : Subject) (w : Work) (sts : List Between) (st : Between) → CallsFill t w sts st 0
 none_yet t w sts st k below = absurd (omega (arith, below))
 
--- one call more
+-- where the first `n` calls lead to one of the states and the next call does, the first `n + 1` calls do
 pub one_more : (t : Subject) (w : Work) (sts : List Between) (st : Between) (n : ℕ) → CallsFill t w sts st n → CallFills t w sts st n
     → CallsFill t w sts st (n + 1)
 one_more t w sts st n before last k below = ⊎_elim
@@ -97,7 +97,7 @@ one_more t w sts st n before last k below = ⊎_elim
     (λ (past : n ≤ k). let same : n ≡ k = omega (arith, past, below) in subst (λ (j : ℕ). CallFills t w sts st j) same last)
     (cases_lt k n)
 
--- one state more
+-- what holds of the first `n` states and of the next one holds of the first `n + 1` states
 pub each_more : (P : Between → Type 0) (sts : List Between) (n : ℕ) (st : Between) → n < length sts → st ≡ get_or sts n st
     → ((i : ℕ) (d : Between) → i < n → P (get_or sts i d)) → P st → (i : ℕ) (d : Between) → i < n + 1 → P (get_or sts i d)
 each_more P sts n st there is before last i d below = ⊎_elim
@@ -108,7 +108,7 @@ each_more P sts n st there is before last i d below = ⊎_elim
     subst (λ (j : ℕ). P (get_or sts j d)) same (subst P e last))
     (cases_lt i n)
 
--- the state of a number
+-- the table's state at a place below the end is the code's state at this place
 state_of_number : (t : Subject) (sts : List Between) (i : ℕ) (d : Between) → i < length sts
     → state_at (board_in t) (algorithm_in t) (states_for t sts) i ≡ state_for t (get_or sts i d)
 state_of_number t sts i d below = get_or-map (state_in (board_in t)) sts i d (load_state (board_in t) (algorithm_in t)) below
@@ -116,7 +116,7 @@ state_of_number t sts i d below = get_or-map (state_in (board_in t)) sts i d (lo
 inside : (t : Subject) (sts : List Between) (i : ℕ) → i < length (states_for t sts) → i < length sts
 inside t sts i below = omega (arith, below, length-map sts (state_in (board_in t)))
 
--- a list with an element has a first one
+-- the first state of a list that isn't empty
 first_of : (sts : List Between) → 0 < length sts → Between
 first_of [] below = absurd (omega (arith, below))
 first_of (st ∷ rest) below = st

@@ -1,22 +1,21 @@
--- From the run of a call as the code makes it to one of the table.
+-- A run that the code makes of a call is a run of the table.
 use Rattle.std.proofs.Common.{◌≡◌, ◌<◌, ◌≤◌, ◌+◌, ◌-◌, ◌^◌, ⊎_elim, All, ℕ, zero, suc, List, [], length}
-use Rattle.std.proofs.Common.{replicate, get_or, map, slice_index, Result, Ok, Err, IfOk, refl, sym, ap, subst, ◌∙◌, arith}
+use Rattle.std.proofs.Common.{replicate, get_or, slice_index, Result, Ok, Err, IfOk, sym, ap, subst, ◌∙◌, arith}
 use Rattle.std.proofs.lemmas.Bool.{cases_lt}
 use Rattle.std.proofs.lemmas.List.{get_or-map, get_or-replicate, get_or_past, length-replicate}
 use Rattle.faults.specs.declared.out_of_memory.OutOfMemory.{OutOfMemory}
 use Rattle.flash_layout.specs.Areas.{cells_in}
 use Rattle.flash_layout.specs.Maps.{FlashMap, board_map}
 use Rattle.flm_descriptor.specs.Shape.{Range, range, range_at}
-use Rattle.target_core.specs.World.{World}
 use Rattle.algo_calls.specs.declared.call.Call.{Call}
 use Rattle.algo_calls.specs.declared.call.Call.TheVariants as call
 use Rattle.algo_calls.specs.Setups.{Setup}
 use Rattle.shadow_step.specs.declared.marks.Mark.TheVariants.{Any, Page}
 use Rattle.duty_proofs.specs.declared.cells.CellMark.{CellMark}
 use Rattle.duty_proofs.specs.declared.cells.CellMark.TheVariants.{Blank, Holds}
-use Rattle.duty_proofs.specs.TargetMarks.{CellSays, TargetMarks}
+use Rattle.duty_proofs.specs.TargetMarks.{CellSays}
 use Rattle.duty_proofs.specs.Starts.{names}
-use Rattle.duty_proofs.specs.Decided.{Goes, State, any_cell, named_cells}
+use Rattle.duty_proofs.specs.Decided.{State, any_cell, named_cells}
 use Rattle.duty_proofs.proofs.NameLemmas.{names_long}
 use Rattle.duty_trials.specs.declared.list.Work.TheVariants as work
 use Rattle.duty_trials.specs.declared.subject.Span.{Span}
@@ -29,7 +28,7 @@ use Rattle.duty_runs.specs.declared.between.Between.{Between}
 use Rattle.duty_runs.specs.declared.went.Went.{Went}
 use Rattle.duty_runs.specs.declared.went.Went.TheVariants as went
 use Rattle.duty_runs.specs.Asks.{own_page}
-use Rattle.duty_runs.specs.Runs.{Decides, IfBack, Leaves}
+use Rattle.duty_runs.specs.Runs.{Decides, IfBack}
 use Rattle.duty_runs.specs.States.{state_of}
 use Rattle.duty_table.specs.States.{RunsTo, state_in}
 use Rattle.duty_table.specs.Tables.{QuietLeaves, WorkLeaves}
@@ -76,7 +75,7 @@ decides_at s st left task task' c c' bytes bytes' from from' many many' cells st
     (subst (λ (x : ℕ). Decides s task st c bytes x many' cells steps left) from_is
     (subst (λ (x : ℕ). Decides s task st c bytes from x cells steps left) many_is d))))
 
--- a run of an ask, whose parts are these
+-- what a run of an ask decides, where the parts of the ask are named one by one
 asked_so : (t : Subject) (a : Ask) (st left : Between) (task : Task) (c : Call) (bytes : List ℕ) (from many : ℕ) → a.task ≡ task → a.call ≡ c
     → a.bytes.now ≡ bytes → a.from ≡ from → a.many ≡ many → (r : RunsTo t a st left)
     → Decides (setup_for t) task (state_in (board_in t) st) c bytes from many r.cells r.steps (state_in (board_in t) left)
@@ -129,7 +128,7 @@ pub quiet_leaves : (t : Subject) (a : Ask) (st left : Between) (c : Call) → a.
     → RunsTo t a st left → QuietLeaves t c st left
 quiet_leaves t a st left c task call_is none from many r = (asked_so t a st left Quiet c [] 0 0 task call_is none from many r).goes
 
--- how many places a span has
+-- a span of a range has as many cells as the range has places
 span_many : (t : Subject) (r : Range) (span : Span) → IsSpan t r span → span.to - span.from ≡ r.stop - r.start
 span_many t r span is = omega (arith, is.from, is.to, is.order)
 

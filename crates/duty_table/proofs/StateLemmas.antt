@@ -1,8 +1,7 @@
--- States as the code has them: between calls, after a load, and when what a run leaves fits one of some.
-use Rattle.std.proofs.Common.{◌≡◌, ◌<◌, ◌≤◌, ◌⊎◌, ⊎_elim, ℕ, zero, suc, Bool, true, false, List, []}
+-- The code's states: between calls, after a load, and where one of them allows the target that a run leaves.
+use Rattle.std.proofs.Common.{◌≡◌, ℕ, zero, suc, Bool, true, false, List}
 use Rattle.std.proofs.Common.{◌∷◌, length, get_or, map, replicate, slice_get, slice_index, Some, refl, sym, ap, subst, ◌∙◌, arith}
-use Rattle.std.proofs.lemmas.Bool.{cases_lt}
-use Rattle.std.proofs.lemmas.List.{length-map, length-replicate, get_or-replicate, get_or_past, get_or-map}
+use Rattle.std.proofs.lemmas.List.{length-map, length-replicate, get_or-map}
 use Rattle.std.proofs.lemmas.List.Elements.{All-map}
 use Rattle.std.proofs.lemmas.Option.{get_or_from_slice_get, slice_get_within}
 use Rattle.std.proofs.Math.ListN as listn
@@ -20,7 +19,7 @@ use Rattle.shadow_step.specs.declared.marks.Mark.TheVariants.{Known, Any}
 use Rattle.shadow_step.specs.Marks.{is_known, known_if}
 use Rattle.duty_proofs.specs.TargetMarks.{Alike, TargetMarks}
 use Rattle.duty_proofs.specs.Runs.{Weakens}
-use Rattle.duty_proofs.specs.Decided.{IsBetween, State}
+use Rattle.duty_proofs.specs.Decided.{State}
 use Rattle.duty_runs.specs.declared.between.Between.{Between}
 use Rattle.duty_runs.specs.Runs.{Leaves}
 use Rattle.duty_table.specs.Alike.{FitsOne, SaysNoMore}
@@ -33,7 +32,7 @@ plainly : (x : Bool) → is_known (known_if x) ≡ false → known_if x ≡ Any
 plainly true e = absurd cc
 plainly false e = refl
 
--- the mark of a byte
+-- the mark of a byte: Known where the byte is known, Any where it isn't
 mark_there : (known : List Bool) (k : ℕ) → get_or (map known_if known) k Any ≡ known_if (get_or known k false)
 mark_there known k = listn.get_or-map known_if known k false
 
@@ -84,7 +83,7 @@ weakens b one other m w more leaves = record {
   none = (refl, refl);
 }
 
--- the state of a number
+-- the table's state at a place is the code's state at this place
 state_there : (b : BoardShown) (a : AlgorithmShown) (sts : List Between) (i : ℕ) (st : Between) → slice_get sts i ≡ Some st
     → state_at b a (map (state_in b) sts) i ≡ state_in b st
 state_there b a sts i st is =

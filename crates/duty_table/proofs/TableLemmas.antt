@@ -1,4 +1,4 @@
--- From the parts of the table to the whole.
+-- The whole table is filled where its parts are.
 use Rattle.std.proofs.Common.{◌≡◌, ◌<◌, ◌≤◌, ◌+◌, ◌⊎◌, ⊎_elim, ℕ, suc, zero, true, false, List, [], length, replicate}
 use Rattle.std.proofs.Common.{Result, Ok, IfOk, IsSome, refl, sym, subst, arith}
 use Rattle.std.proofs.lemmas.List.{length-replicate}
@@ -20,7 +20,7 @@ use Rattle.duty_table.specs.Tables.{ListFills, states_for}
 use Rattle.duty_table.proofs.StateLemmas.{are_states}
 use Rattle.duty_table.specs.Filled.{AreStates, FillsAll, GoesQuiet, load_state, state_at}
 
--- the states of a kind
+-- the states of a kind of list: 1 erases, 2 programs, 3 verifies
 abbrev of_kind : List State → List State → List State → ℕ → List State
 of_kind erasing programming verifying zero = []
 of_kind erasing programming verifying (suc zero) = erasing
@@ -83,11 +83,11 @@ module _ (b : BoardShown) (a : AlgorithmShown) (region : ℕ) (erasing programmi
     ends = λ kind i is within. ends kind is i within;
   }
 
--- nothing is both false and true
+-- no truth value is both false and true: whatever is wanted follows
 pub no_such : (A : Type 0) → false ≡ true → A
 no_such A e = absurd cc
 
--- what holds of what was found
+-- what holds of the value of a result that is Ok
 pub ok_so : {A B : Type 0} (r : Result A B) (P : A → Type 0) (x : A) → r ≡ Ok x → IfOk r P → P x
 ok_so r P x is so = rw is at so
 

@@ -1,4 +1,4 @@
--- States between calls of a board's target, and what a run shows of a call from one.
+-- States of a board's target between calls, and what one run shows of a call from such a state.
 use Rattle.std.specs.Prelude.{◌≡◌, ℕ, List, length, replicate}
 use Rattle.flash_layout.specs.Areas.{cells_in}
 use Rattle.flash_layout.specs.Maps.{board_map}
@@ -11,11 +11,11 @@ use Rattle.duty_runs.specs.declared.between.Between.{Between}
 use Rattle.duty_runs.specs.Runs.{Decides}
 use Rattle.duty_runs.specs.States.{state_of}
 
--- such a state, over cells of 0
+-- A state of the code as a state of the table, over cells that are all 0: the marks say nothing of the cells between calls.
 abbrev pub state_in : BoardShown → Between → State
 state_in b t = state_of b.ram_base (board_map b) (replicate (cells_in (board_map b).areas) 0) t
 
--- A call from a state, which one run over some cells decides: it leaves a state.
+-- One run of a call from the state `st`, over some cells of the board, decides that every run of the call leaves the state `left`.
 pub record RunsTo (t : Subject) (a : Ask) (st left : Between) : Type 0 where
   pub cells : List ℕ
   pub steps : ℕ

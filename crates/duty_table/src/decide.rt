@@ -1,4 +1,4 @@
-//! Whether an algorithm keeps its duties, by its table.
+//! Whether an algorithm keeps its duties: it does where its table is filled.
 ghost use Rattle.std.specs.Prelude.{◌≡◌, IfOk, IfNone};
 ghost use Rattle.flash_layout.specs.Maps.{board_map, map_of};
 ghost use Rattle.target_core.specs.Units.{fresh, unit_state};
@@ -21,7 +21,7 @@ use flash_layout::FlashMap;
 use ram_arena::Arena;
 use std::alloc::Global;
 
-/// A target of the board with the algorithm after a load.
+/// A target of the board after a load of the algorithm.
 fn hand_of<'a>(
     alloc: Global,
     subject: &Subject<'_>,
@@ -43,7 +43,7 @@ fn hand_of<'a>(
 impl<'h, 's, 'b> Table<'h, 's, 'b> {
     ghost use Rattle.duty_table.specs.Tables.{ListFills};
 
-    /// Why an algorithm's table isn't filled.
+    /// Returns why the algorithm's table isn't filled, or None where it is.
     fn fills(&mut self, loaded: &Between) -> Result<Option<Reason>, OutOfMemory>
         requires { state_for self.old.subject.now loaded.now ≡ load_for self.old.subject.now }
         ensures { IfOk result (λ reason. IfNone reason (Decided (board_in self.old.subject.now) (algorithm_in self.old.subject.now) self.old.subject.now.region)) }
@@ -71,7 +71,8 @@ impl<'h, 's, 'b> Table<'h, 's, 'b> {
     }
 }
 
-/// Why it isn't decided that an algorithm keeps its duties, by at most so many steps; none where it is.
+/// Returns why it isn't decided that the subject's algorithm keeps its duties, or None where it is decided that it does. All runs together
+/// make at most `steps` steps.
 pub fn why_undecided(
     alloc: Global,
     subject: &Subject<'_>,

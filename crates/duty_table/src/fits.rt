@@ -1,4 +1,4 @@
-//! When one state between calls says no more than another.
+//! Whether one state between calls says no more than another: whether it allows every target that the other allows.
 ghost use Rattle.std.specs.Prelude.{◌≡◌, ◌<◌, true, length, IsTrue};
 ghost use Rattle.duty_table.specs.Alike.{lock_number, AreAlike, FitsAt, SaysNoMore, SaysNoMoreOf, FitsOne, address_in};
 
@@ -20,7 +20,7 @@ fn lock_number(lock: Lock) -> u32
     }
 }
 
-/// Whether the registers of two FPECs are the same, but perhaps for the address.
+/// Whether two FPECs have equal registers, where the address registers may differ.
 #[tactic(auto, using(crate::proofs::AlikeLemmas::fpec_same))]
 fn fpec_alike(one: &FpecState, other: &FpecState) -> bool
     ensures { IsTrue result → other.now ≡ record one.now { address = other.now.address } }
@@ -34,7 +34,7 @@ fn fpec_alike(one: &FpecState, other: &FpecState) -> bool
         && one.access_control == other.access_control
 }
 
-/// Whether those of two FC1s are.
+/// Whether two FC1s have equal registers, where the address registers may differ.
 #[tactic(auto, using(crate::proofs::AlikeLemmas::fc1_same))]
 fn fc1_alike(one: &Fc1State, other: &Fc1State) -> bool
     ensures { IsTrue result → other.now ≡ record one.now { address = other.now.address } }
@@ -47,7 +47,7 @@ fn fc1_alike(one: &Fc1State, other: &Fc1State) -> bool
         && one.command == other.command
 }
 
-/// Whether registers are the same, but perhaps for the address.
+/// Whether two controllers are of one kind and have equal registers, where the address registers may differ.
 pub(crate) fn are_alike(one: &AnyRegisters, other: &AnyRegisters) -> bool
     ensures { IsTrue result → AreAlike one.now other.now }
 {
@@ -58,7 +58,7 @@ pub(crate) fn are_alike(one: &AnyRegisters, other: &AnyRegisters) -> bool
     }
 }
 
-/// The address register.
+/// The value of a controller's address register.
 pub(crate) fn address_in(registers: &AnyRegisters) -> u32
     ensures { result ≡ address_in registers.now }
 {
@@ -68,14 +68,14 @@ pub(crate) fn address_in(registers: &AnyRegisters) -> u32
     }
 }
 
-/// Whether the address registers of two states are known and the same.
+/// Whether the address register of the first state is known, and equal to the address register of the second.
 pub(crate) fn same_address(one: &Between, other: &Between) -> bool
     ensures { IsTrue result → (one.now.address ≡ true) × (address_in one.now.state.registers ≡ address_in other.now.state.registers) }
 {
     one.address && address_in(&one.state.registers) == address_in(&other.state.registers)
 }
 
-/// Whether the registers that fit a state fit another.
+/// Whether the second state allows all registers that the first allows.
 #[tactic(auto, using(crate::proofs::AlikeLemmas::no_more_loose, crate::proofs::AlikeLemmas::no_more_exact))]
 fn registers_fit(one: &Between, other: &Between) -> bool
     ensures { IsTrue result → SaysNoMoreOf one.now other.now }
@@ -89,7 +89,7 @@ fn registers_fit(one: &Between, other: &Between) -> bool
     same_address(one, other)
 }
 
-/// Whether a byte that is known in a state is known in another, and the same.
+/// Whether the second state doesn't know byte `k`, or both know it and the bytes are equal.
 fn byte_fits(one: &Between, other: &Between, k: usize) -> bool
     requires one { k < length one.now.ram.items }
     requires other { k < length other.now.ram.items }
@@ -98,7 +98,7 @@ fn byte_fits(one: &Between, other: &Between, k: usize) -> bool
     !other.known[k] || (one.known[k] && one.ram[k] == other.ram[k])
 }
 
-/// Whether what fits a state fits another: that says no more.
+/// Whether the second state allows every target that the first allows.
 #[tactic(auto, using(crate::proofs::AlikeLemmas::no_more))]
 pub(crate) fn fits(one: &Between, other: &Between) -> bool
     ensures { IsTrue result → SaysNoMore one.now other.now }
@@ -114,7 +114,7 @@ pub(crate) fn fits(one: &Between, other: &Between) -> bool
     true
 }
 
-/// Whether what fits a state fits one of some.
+/// Whether one of the states allows every target that the state `left` allows.
 pub(crate) fn fits_one(left: &Between, states: &[Between]) -> bool
     ensures { IsTrue result → FitsOne left.now states.now }
 {

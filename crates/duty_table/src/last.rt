@@ -1,4 +1,4 @@
-//! The last pass: it makes each call from each state, and refuses where what is left fits none of them.
+//! The last pass. It makes each call from each state, and refuses the table where none of the states allows the target that a call leaves.
 
 ghost use Rattle.std.specs.Prelude.{◌≡◌, IfNone};
 ghost use Rattle.duty_runs.specs.Runs.{IfBack};
@@ -13,7 +13,7 @@ use duty_runs::{Between, Went};
 use duty_trials::Work;
 use faults::OutOfMemory;
 
-/// Why a call that went so doesn't lead to one of some states.
+/// Returns why a call doesn't lead to one of the states, from how its run went.
 fn refusal(call: Call, went: &Went, states: &[Between]) -> Option<Reason>
     ensures { IfNone result (IsBackTo went.now (λ left steps. FitsOne left states.now)) }
 {
@@ -35,7 +35,7 @@ fn refusal(call: Call, went: &Went, states: &[Between]) -> Option<Reason>
     }
 }
 
-/// Why a call that went so decides nothing.
+/// Returns why a call isn't known to return, from how its run went.
 fn failure(call: Call, went: &Went) -> Option<Reason>
     ensures { IfNone result (IsBackTo went.now (λ left steps. Unit {0})) }
 {
@@ -76,7 +76,7 @@ impl<'h, 's, 'b> Table<'h, 's, 'b> {
         }
     }
 
-    /// Why Init doesn't lead to one of the states after a load.
+    /// Returns why Init doesn't lead from the target after a load to one of the states.
     fn init_fills(
         &mut self,
         loaded: &Between,
@@ -92,7 +92,7 @@ impl<'h, 's, 'b> Table<'h, 's, 'b> {
         Ok(refusal(call, &went, states))
     }
 
-    /// Why a call doesn't lead from a state to one of the states.
+    /// Returns why the call of a function on a sector or page doesn't lead from a state to one of the states.
     fn call_fills(
         &mut self,
         work: Work,
@@ -110,7 +110,7 @@ impl<'h, 's, 'b> Table<'h, 's, 'b> {
         Ok(refusal(call, &went, states))
     }
 
-    /// Why the calls of a function don't lead from a state to one of the states.
+    /// Returns why one of the calls of a function doesn't lead from a state to one of the states.
     fn calls_fill(
         &mut self,
         work: Work,
@@ -131,7 +131,7 @@ impl<'h, 's, 'b> Table<'h, 's, 'b> {
         Ok(None)
     }
 
-    /// Why they don't from each of the states.
+    /// Returns why one of the calls of a function doesn't lead from each of the states to one of them.
     fn works_fill(&mut self, work: Work, states: &[Between]) -> Result<Option<Reason>, OutOfMemory>
         requires { HasFunction (algorithm_in self.old.subject.now).entries work }
         ensures fills { IfOk result (λ reason. IfNone reason (WorksFill self.old.subject.now work states.now)) }
@@ -146,7 +146,7 @@ impl<'h, 's, 'b> Table<'h, 's, 'b> {
         Ok(None)
     }
 
-    /// Why UnInit doesn't go from a state.
+    /// Returns why UnInit isn't known to return from a state.
     fn end_fills(&mut self, work: Work, state: &Between) -> Result<Option<Reason>, OutOfMemory>
         ensures fills { IfOk result (λ reason. IfNone reason (EndFills self.old.subject.now work state.now)) }
         ensures subject { self.new.subject ≡ self.old.subject }
@@ -156,7 +156,7 @@ impl<'h, 's, 'b> Table<'h, 's, 'b> {
         Ok(failure(call, &went))
     }
 
-    /// Why it doesn't from each of the states.
+    /// Returns why UnInit isn't known to return from each of the states.
     fn ends_fill(&mut self, work: Work, states: &[Between]) -> Result<Option<Reason>, OutOfMemory>
         ensures fills { IfOk result (λ reason. IfNone reason (EndsFill self.old.subject.now work states.now)) }
         ensures subject { self.new.subject ≡ self.old.subject }
@@ -170,7 +170,7 @@ impl<'h, 's, 'b> Table<'h, 's, 'b> {
         Ok(None)
     }
 
-    /// Why the chip's erasure doesn't lead from each of the states of lists that erase to one of them.
+    /// Returns why EraseChip, in lists that erase, doesn't lead from each of the states to one of them.
     fn chip_fills(&mut self, work: Work, states: &[Between]) -> Result<Option<Reason>, OutOfMemory>
         ensures fills { IfOk result (λ reason. IfNone reason (work ≡ a_work.Sectors → IsSome (algorithm_in self.old.subject.now).entries.erase_chip
             → WorksFill self.old.subject.now a_work.Chip states.now)) }
@@ -182,7 +182,8 @@ impl<'h, 's, 'b> Table<'h, 's, 'b> {
         Ok(None)
     }
 
-    /// Why the states don't fill the table of a kind of list: the first call, in the order of a list, that doesn't lead from one to another.
+    /// Returns why the states don't fill the table of a kind of list. The reason names the first call that fails: Init comes first, then the
+    /// function, EraseChip and UnInit.
     pub(crate) fn list_fills(
         &mut self,
         loaded: &Between,

@@ -1,8 +1,8 @@
 //! Whether a flash algorithm keeps its duties, decided by one run of each call from each state between calls.
 //!
-//! `why_undecided` looks for the states between the calls of each kind of list. Nothing is said of that search. Then a last pass makes each call
-//! once from each state, and wants what it leaves to fit one of the states: so the states and these runs are a table that is full, and every run
-//! of every list keeps its duties.
+//! `why_undecided` searches for the states between the calls of each kind of list. No contract says what this search finds. A last pass then
+//! makes each call once from each state, and checks that one of the states allows the target that the call leaves. Where all calls pass, the
+//! states and these runs fill the algorithm's table, and every run of every list keeps its duties.
 #![tactic(auto)]
 
 mod decide;

@@ -1,27 +1,29 @@
-//! Why a table isn't filled.
+//! Why an algorithm's table isn't filled.
 
 use algo_calls::Call;
 use duty_runs::Cause;
 
-/// What stands in the way.
+/// What keeps a table from being filled.
 #[derive(Clone, Copy)]
 pub enum Why {
-    /// A run decides nothing: the address of the instruction at which it stopped, and why.
+    /// The run of a call decides nothing.
     Run {
-        /// The address.
+        /// The address of the instruction at which the run stopped.
         pc: u32,
-        /// Why.
+        /// Why the run decides nothing.
         cause: Cause,
     },
-    /// What a call leaves fits none of the states, or there are too many of them.
+    /// None of the states allows the target that a call leaves, or there are too many states.
     States,
     /// The empty value of the device isn't FF.
     Empty,
 }
 
-/// The call that isn't decided, and why.
+/// A call that isn't decided, and why.
 #[derive(Clone, Copy)]
 pub struct Reason {
+    /// The call.
     pub call: Call,
+    /// Why it isn't decided.
     pub why: Why,
 }

@@ -10,7 +10,8 @@ use duty_trials::Subject;
 use faults::OutOfMemory;
 use std::alloc::Global;
 
-/// The units of the bench's record: enough for a call that erases each sector by itself, or programs each byte of a page by itself and reads it.
+/// The units of the bench's record. They are enough for a call that erases each sector in an operation of its own, or that programs each byte
+/// of a page in one and reads it.
 fn room(subject: &Subject<'_>) -> u64 {
     let sectors = u64::from(subject.geometry.sectors());
     4096 + 4 * sectors + 8 * u64::from(subject.algorithm.device.page)
@@ -35,7 +36,7 @@ impl<'h, 's, 'b> Table<'h, 's, 'b> {
     ghost use Rattle.duty_trials.specs.Subjects.{setup_for};
     ghost use Rattle.duty_table.specs.States.{RunsTo};
 
-    /// Makes a call from a state, over these cells.
+    /// Makes a call from a state over these cells, and counts its steps.
     pub(crate) fn run(
         &mut self,
         state: &Between,

@@ -1,4 +1,4 @@
-//! The search for the states between the calls of a kind of list. Nothing is said of what it finds: the last pass looks at it.
+//! The search for the states between the calls of a kind of list. No contract says what it finds: the last pass checks the states.
 
 ghost use Rattle.std.specs.Prelude.{◌≡◌, length};
 
@@ -11,24 +11,24 @@ use duty_trials::Work;
 use faults::OutOfMemory;
 use std::alloc::Global;
 
-/// The most states of a kind of list.
+/// The greatest number of states of a kind of list.
 const MOST_STATES: usize = 40;
 
-/// The most times that all calls are made again, from states that came of those before.
+/// The greatest number of times that all calls are made again, from the states that the calls before left.
 const MOST_PASSES: u32 = 64;
 
-/// What became of the states where one more was to be among them.
+/// What happened to a list of states when one more was put into it.
 #[derive(Clone, Copy)]
 enum Entered {
-    /// It fits one of them.
+    /// The list is as it was: one of its states allows what the new one allows.
     Fits,
-    /// One of them says less now, or it is one of them.
+    /// One of the states says less now, or the new one was added.
     Changed,
-    /// There are too many.
+    /// The list is full.
     TooMany,
 }
 
-/// Takes bytes as unknown that differ in two states, or aren't known in the other.
+/// Marks as unknown each byte that differs from the other state's byte, or that the other state doesn't know.
 fn forget(known: &mut [bool], one: &[u8], other: &Between) {
     for k in 0..known.len() {
         if k >= one.len() || k >= other.ram.len() || !other.known[k] || one[k] != other.ram[k] {
@@ -37,7 +37,7 @@ fn forget(known: &mut [bool], one: &[u8], other: &Between) {
     }
 }
 
-/// A state that says no more than either of two, whose registers are alike.
+/// A state that says no more than either of two states with equal registers.
 fn joined(one: &Between, other: &Between) -> Result<Between, OutOfMemory> {
     let ram = one.ram.clone()?;
     let mut known = one.known.clone()?;
@@ -50,7 +50,7 @@ fn joined(one: &Between, other: &Between) -> Result<Between, OutOfMemory> {
     })
 }
 
-/// The first of some states whose registers are like those of another.
+/// The place of the first state with the registers of the state `left`, where the address registers may differ.
 fn like(states: &[Between], left: &Between) -> Option<usize> {
     for at in 0..states.len() {
         if are_alike(&left.state.registers, &states[at].state.registers) {
@@ -60,7 +60,7 @@ fn like(states: &[Between], left: &Between) -> Option<usize> {
     None
 }
 
-/// Puts a state among some, where it fits none of them.
+/// Puts a state into a list of states, unless one of them allows all that it allows.
 fn enter(states: &mut Vec<Between>, left: Between) -> Result<Entered, OutOfMemory> {
     if fits_one(&left, states) {
         return Ok(Entered::Fits);
@@ -78,7 +78,7 @@ fn enter(states: &mut Vec<Between>, left: Between) -> Result<Entered, OutOfMemor
     Ok(Entered::Changed)
 }
 
-/// Whether the states changed by what a call left, or why it wasn't decided.
+/// Puts the state that a call left into the list. Returns whether the list changed, or why the call isn't decided.
 fn take_in(
     call: Call,
     went: Went,
@@ -100,7 +100,7 @@ fn take_in(
     }
 }
 
-/// Whether a call is among those that are made: all, or the first, the middle and the last.
+/// Whether the call with this number is made: `all` calls are, or only the first, the middle and the last.
 fn is_made(number: u32, count: u32, all: bool) -> bool {
     all || number == 0 || number == count / 2 || number == count.saturating_sub(1)
 }
@@ -111,7 +111,8 @@ impl<'h, 's, 'b> Table<'h, 's, 'b> {
     ghost use Rattle.duty_trials.specs.Subjects.{algorithm_in};
     ghost use Rattle.duty_table.specs.Tables.{state_for, load_for, ListFills};
 
-    /// Makes calls of a function from the state of this number, and puts what they leave among the states. Answers whether they changed.
+    /// Makes calls of a function from the state at this place, and puts the states that they leave into the list. Returns whether the list
+    /// changed, or why a call isn't decided.
     fn pass_from(
         &mut self,
         states: &mut Vec<Between>,
@@ -137,7 +138,8 @@ impl<'h, 's, 'b> Table<'h, 's, 'b> {
         Ok(Ok(changed))
     }
 
-    /// The same from each state, also from those that come of it.
+    /// Makes calls of a function from each state of the list, also from those that are added on the way. Returns whether the list changed, or
+    /// why a call isn't decided.
     fn pass(
         &mut self,
         states: &mut Vec<Between>,
@@ -157,7 +159,7 @@ impl<'h, 's, 'b> Table<'h, 's, 'b> {
         Ok(Ok(changed))
     }
 
-    /// The same for the functions of a kind of list.
+    /// Makes calls of each function of a kind of list from each state. Returns whether the list changed, or why a call isn't decided.
     fn passes(
         &mut self,
         states: &mut Vec<Between>,
@@ -180,7 +182,7 @@ impl<'h, 's, 'b> Table<'h, 's, 'b> {
         }
     }
 
-    /// States that come of Init and of the first, the middle and the last call of each function, until they change no more.
+    /// Finds the states that Init leaves, and then the first, the middle and the last call of each function, until the list no longer changes.
     fn seek(
         &mut self,
         loaded: &Between,
@@ -205,7 +207,7 @@ impl<'h, 's, 'b> Table<'h, 's, 'b> {
         Ok(Ok(states))
     }
 
-    /// States that fill the table of a kind of list, or why none were found.
+    /// Returns states that fill the table of a kind of list, or why none were found.
     pub(crate) fn find(
         &mut self,
         loaded: &Between,

@@ -1,4 +1,4 @@
-//! The target on which the calls of a table are made.
+//! The target on which the calls for a table are made.
 ghost use Rattle.std.specs.Prelude.{◌≡◌};
 ghost use Rattle.flash_layout.specs.Maps.{board_map};
 ghost use Rattle.duty_runs.specs.Hands.{hand_setup, hand_base, hand_map};
@@ -8,7 +8,7 @@ use duty_runs::Hand;
 use duty_trials::Subject;
 use std::alloc::Global;
 
-/// An algorithm for a region of a board, a target with it, and how many steps may still be made.
+/// An algorithm for a region of a board, a target that has it loaded, and the number of steps that may still be made.
 #[derive(Drop)]
 pub(crate) struct Table<'h, 's, 'b> {
     pub(crate) alloc: Global,

@@ -1,4 +1,4 @@
-//! The calls of a table: each on one sector or page.
+//! The calls for a table, each on one sector or page or on the whole device.
 
 ghost use Rattle.std.specs.Prelude.{◌≡◌, ◌<◌, ◌^◌, length, All, IfOk};
 
@@ -9,7 +9,7 @@ use duty_trials::Work;
 use faults::OutOfMemory;
 use std::alloc::Global;
 
-/// Some bytes of a page: any will do.
+/// Bytes for a page: their values don't matter.
 fn page_bytes(alloc: Global, count: u32) -> Result<Vec<u8>, OutOfMemory>
     ensures count { IfOk result (λ bytes. length bytes.items ≡ count) }
     ensures bytes { IfOk result (λ bytes. All (λ v. v < 2 ^ 8) bytes.items) }
@@ -26,14 +26,14 @@ impl<'h, 's, 'b> Table<'h, 's, 'b> {
     ghost use Rattle.duty_trials.specs.Subjects.{algorithm_in, setup_for, site_in};
     ghost use Rattle.duty_table.specs.Tables.{QuietLeaves, WorkLeaves};
 
-    /// Cells that are all erased.
+    /// The cells of the board's regions, all erased.
     fn blank(&self) -> Result<Vec<u8>, OutOfMemory>
         ensures { IfOk result (λ cells. length cells.items ≡ self.now.subject.now.cells) }
     {
         Ok(vec![in self.alloc; 0xFF; self.subject.cells as usize]?)
     }
 
-    /// Makes a call that does nothing to any cell.
+    /// Makes a call that opens no operation on any cell.
     pub(crate) fn quiet(&mut self, state: &Between, call: Call) -> Result<Went, OutOfMemory>
         requires { MayAsk (setup_for self.old.subject.now) call [] }
         ensures goes { IfOk result (λ went. IfBack went (λ left steps. QuietLeaves self.old.subject.now call state.now left)) }
@@ -50,7 +50,7 @@ impl<'h, 's, 'b> Table<'h, 's, 'b> {
         self.run(state, &ask, &cells)
     }
 
-    /// Erases a sector.
+    /// Calls the function that erases the sector of this number.
     fn sector(&mut self, state: &Between, number: u32) -> Result<Went, OutOfMemory>
         requires { number < length (site_in self.old.subject.now).layout.sectors }
         ensures goes { IfOk result (λ went. IfBack went (λ left steps. WorkLeaves self.old.subject.now a_work.Sectors number state.now left)) }
@@ -68,7 +68,7 @@ impl<'h, 's, 'b> Table<'h, 's, 'b> {
         self.run(state, &ask, &cells)
     }
 
-    /// Erases all sectors.
+    /// Calls the function that erases all sectors.
     fn chip(&mut self, state: &Between) -> Result<Went, OutOfMemory>
         requires { IsSome (algorithm_in self.old.subject.now).entries.erase_chip }
         ensures goes { IfOk result (λ went. IfBack went (λ left steps. WorkLeaves self.old.subject.now a_work.Chip 0 state.now left)) }
@@ -86,7 +86,7 @@ impl<'h, 's, 'b> Table<'h, 's, 'b> {
         self.run(state, &ask, &cells)
     }
 
-    /// Programs a page, which is empty.
+    /// Calls the function that programs the page of this number, whose cells are erased.
     fn page(&mut self, state: &Between, number: u32) -> Result<Went, OutOfMemory>
         requires { number < length (site_in self.old.subject.now).layout.pages }
         ensures goes { IfOk result (λ went. IfBack went (λ left steps. WorkLeaves self.old.subject.now a_work.Pages number state.now left)) }
@@ -106,7 +106,7 @@ impl<'h, 's, 'b> Table<'h, 's, 'b> {
         self.run(state, &ask, &cells)
     }
 
-    /// Verifies a page, which holds the bytes.
+    /// Calls the function that verifies the page of this number, whose cells hold the bytes.
     fn check(&mut self, state: &Between, number: u32) -> Result<Went, OutOfMemory>
         requires number { number < length (site_in self.old.subject.now).layout.pages }
         requires function { IsSome (algorithm_in self.old.subject.now).entries.verify }
@@ -128,7 +128,7 @@ impl<'h, 's, 'b> Table<'h, 's, 'b> {
         self.run(state, &ask, &cells)
     }
 
-    /// Makes the call of a function on the sector or page of this number.
+    /// Calls a function on the sector or page of this number.
     pub(crate) fn work(
         &mut self,
         state: &Between,

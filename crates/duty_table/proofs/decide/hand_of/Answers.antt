@@ -1,13 +1,12 @@
--- `hand_of`: its contract, and what its calls ask for.
+-- `hand_of`: its clause `ram`, and what `load` and `new` require.
 use Rattle.std.proofs.Common.{List, ℕ, [], length, sym, ap, ◌∙◌, arith}
 use Rattle.std.proofs.lemmas.List.{length-replicate}
 use Rattle.target_core.specs.World.{World}
 use Rattle.target_core.specs.Windows.{window_of}
-use Rattle.target_core.specs.Units.{unit_map, unit_state}
+use Rattle.target_core.specs.Units.{unit_map}
 use Rattle.algo_calls.specs.declared.calls_in.CallsIn.{CallsIn}
 use Rattle.algo_calls.specs.Frames.{loaded}
 use Rattle.algo_calls.specs.Setups.{Setup}
-use Rattle.algo_calls.specs.Shows.{setup_at}
 use Rattle.duty_table.proofs.decide.hand_of.Goals as goal
 
 pub load-requires : goal.load-requires

@@ -1,5 +1,5 @@
--- `why_undecided`: its contract, and what its calls ask for.
-use Rattle.std.proofs.Common.{ℕ, Bool, true, List, length, replicate, sym, ap, ◌∙◌}
+-- `why_undecided`: that it keeps its contract, and what `loaded` and `fills` require.
+use Rattle.std.proofs.Common.{Bool, true, List, length, replicate, sym, ap, ◌∙◌}
 use Rattle.std.proofs.lemmas.List.{length-replicate}
 use Rattle.target_core.specs.Units.{UnitState}
 use Rattle.algo_calls.specs.Setups.{Setup}

@@ -1,4 +1,4 @@
--- `fits_one`: that the state which fits is one of the states.
+-- `fits_one`: the value that it answers.
 use Rattle.std.proofs.Common.{length, refl, arith}
 use Rattle.std.proofs.lemmas.Option.{slice_get_read}
 use Rattle.duty_table.proofs.fits.fits_one.Goals as goal

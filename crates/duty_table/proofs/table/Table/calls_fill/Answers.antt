@@ -1,5 +1,5 @@
--- `Table::calls_fill`: its clause `fills`, that its loop keeps what it has to, and what each call asks for.
-use Rattle.std.proofs.Common.{◌≡◌, ◌∙◌, refl, arith}
+-- `Table::calls_fill`: its clause `fills`, that its loop keeps its invariant, and what `call_fills` requires.
+use Rattle.std.proofs.Common.{◌∙◌, refl, arith}
 use Rattle.duty_table.proofs.LastLemmas.{one_more, none_so, none_yet}
 use Rattle.duty_table.proofs.table.Table.calls_fill.Goals as goal
 

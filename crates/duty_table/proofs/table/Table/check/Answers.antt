@@ -1,5 +1,5 @@
--- `Table::check`: its clause `goes`, and what the run asks for.
-use Rattle.std.proofs.Common.{◌≡◌, ◌≤◌, ◌+◌, ◌-◌, ℕ, List, length, refl, ap, ◌∙◌, arith}
+-- `Table::check`: its clause `goes`, and what `run` requires.
+use Rattle.std.proofs.Common.{◌≤◌, ◌+◌, ◌-◌, ℕ, List, length, refl, ap, ◌∙◌, arith}
 use Rattle.duty_trials.proofs.SubjectLemmas.{page_short}
 use Rattle.duty_table.proofs.RunLemmas.{ok_back, check_leaves, small_at}
 use Rattle.duty_table.proofs.table.Table.check.Goals as goal

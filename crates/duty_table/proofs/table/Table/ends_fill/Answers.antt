@@ -1,5 +1,5 @@
--- `Table::ends_fill`: its clause `fills`, and that its loop keeps what it has to.
-use Rattle.std.proofs.Common.{◌≡◌, ◌∙◌, refl, arith}
+-- `Table::ends_fill`: its clause `fills`, and that its loop keeps its invariant.
+use Rattle.std.proofs.Common.{◌∙◌, refl, arith}
 use Rattle.duty_table.specs.Tables.{EndFills}
 use Rattle.duty_table.proofs.LastLemmas.{each_more, none_so}
 use Rattle.duty_table.proofs.table.Table.ends_fill.Goals as goal

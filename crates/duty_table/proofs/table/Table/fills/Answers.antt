@@ -1,4 +1,4 @@
--- `Table::fills`: its contract, and what its calls ask for.
+-- `Table::fills`: that it keeps its contract, and what `find` requires.
 use Rattle.std.proofs.Common.{◌≡◌, ◌∙◌, [], arith, sym}
 use Rattle.duty_table.proofs.TableLemmas.{all_filled, no_such, ok_so}
 use Rattle.duty_table.proofs.table.Table.fills.Goals as goal

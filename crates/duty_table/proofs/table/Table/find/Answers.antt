@@ -1,5 +1,4 @@
--- `Table::find`: what its calls ask for.
-use Rattle.std.proofs.Common.{◌∙◌}
+-- `Table::find`: what `list_fills` requires.
 use Rattle.duty_table.proofs.table.Table.find.Goals as goal
 
 pub list_fills-requires-clause-loaded : goal.list_fills-requires-clause-loaded

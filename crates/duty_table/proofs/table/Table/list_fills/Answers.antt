@@ -1,4 +1,4 @@
--- `Table::list_fills`: its clause `fills`, and what its calls ask for.
+-- `Table::list_fills`: its clause `fills`, and what `works_fill` requires.
 use Rattle.std.proofs.Common.{◌∙◌}
 use Rattle.duty_table.proofs.LastLemmas.{list_fills, none_so, ok_none}
 use Rattle.duty_table.proofs.table.Table.list_fills.Goals as goal

@@ -1,5 +1,5 @@
--- `Table::page`: its clause `goes`, and what the run asks for.
-use Rattle.std.proofs.Common.{◌≡◌, ◌≤◌, ◌+◌, ◌-◌, ℕ, List, length, refl, ap, ◌∙◌, arith}
+-- `Table::page`: its clause `goes`, and what `run` requires.
+use Rattle.std.proofs.Common.{◌≤◌, ◌+◌, ◌-◌, ℕ, List, length, refl, ap, ◌∙◌, arith}
 use Rattle.duty_trials.proofs.SubjectLemmas.{page_short}
 use Rattle.duty_table.proofs.RunLemmas.{ok_back, page_leaves, small_at}
 use Rattle.duty_table.proofs.table.Table.page.Goals as goal

@@ -1,5 +1,5 @@
--- `Table::run`: its clause `runs`, and what the run asks for.
-use Rattle.std.proofs.Common.{◌≡◌, ℕ, List, length, refl, sym, ap, ◌∙◌, arith}
+-- `Table::run`: its clause `runs`, and what `bench_over` and `go` require.
+use Rattle.std.proofs.Common.{ℕ, List, length, refl, sym, ap, ◌∙◌, arith}
 use Rattle.bench_model.specs.Shown.{bench_of}
 use Rattle.flash_layout.specs.Areas.{cells_in}
 use Rattle.flash_layout.specs.Maps.{FlashMap}

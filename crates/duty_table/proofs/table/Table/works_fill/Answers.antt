@@ -1,5 +1,5 @@
--- `Table::works_fill`: its clause `fills`, and that its loop keeps what it has to.
-use Rattle.std.proofs.Common.{◌≡◌, ◌∙◌, refl, arith}
+-- `Table::works_fill`: its clause `fills`, that its loop keeps its invariant, and what `calls_fill` requires.
+use Rattle.std.proofs.Common.{◌∙◌, refl, arith}
 use Rattle.duty_trials.specs.Lists.{count_of}
 use Rattle.duty_trials.specs.Subjects.{site_in}
 use Rattle.duty_table.specs.Tables.{CallsFill}
